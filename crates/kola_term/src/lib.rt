@@ -1,0 +1,2 @@
+//! The terms of the algebra, with their value and visits.
+#![tactic(auto)]

@@ -1,0 +1,2 @@
+//! The top call: a job in, a report out.
+#![tactic(auto)]

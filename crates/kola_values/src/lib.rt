@@ -1,0 +1,2 @@
+//! Types, values and sets, with their order.
+#![tactic(auto)]

@@ -1,2 +1,13 @@
 //! Types, values and sets, with their order.
 #![tactic(auto)]
+
+mod copies;
+mod laws;
+mod order;
+mod ty;
+mod value;
+
+pub use laws::{equal_types_are_the_same, values_are_totally_ordered};
+pub use order::cmp_values;
+pub use ty::{BoxedTy, Fields, Ty};
+pub use value::{BoxedValue, Set, Value, ValueFields};

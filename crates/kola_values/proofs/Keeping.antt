@@ -5,11 +5,8 @@ use Rattle.kola_values.specs.Values.{ValueTree, VSet, items, of_items, of_fields
 use Rattle.kola_values.specs.Sets.{Rising, Each}
 use Rattle.kola_values.specs.WellFormed.{WellFormed, WellFormedMembers, WellFormedFields}
 use Rattle.kola_values.specs.Views.{value_tree}
+use Rattle.kola_values.proofs.Anys.{items-of_items}
 use Rattle.kola_values.specs.declared.value.Value.{Value}
-
-pub items-of_items : (vs : List ValueTree) → items (of_items vs) ≡ vs
-items-of_items [] = refl
-items-of_items (v ∷ vs) = ap (λ l. v ∷ l) (items-of_items vs)
 
 pub members_well_formed : (vs : List ValueTree) → Each WellFormed vs → WellFormedMembers (of_items vs)
 members_well_formed [] h = tt

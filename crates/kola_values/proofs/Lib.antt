@@ -1,3 +1,6 @@
+pub mod Anys
+pub mod Each
+pub mod Typed
 pub mod Loops
 pub mod SameTypes
 pub mod Keeping

@@ -1,6 +1,6 @@
 -- Lists of the program that contracts see through a view of their entries, and steps of a loop over them.
 use Rattle.std.proofs.Common.{◌≡◌, ℕ, ◌+◌, ◌<◌, List, [], ◌∷◌, ◌++◌, length, get_or, map, take, drop, sym, ap, ◌∙◌, arith, refl}
-use Rattle.std.proofs.lemmas.List.{get_or-map, length-map, map-append, take_more, drop_more}
+use Rattle.std.proofs.lemmas.List.{get_or-map, length-map, map-append, append_assoc, take_more, drop_more}
 
 module _ {X A : Type 0} (v : X → A) where
   -- the entry at a place, as it is seen
@@ -27,6 +27,14 @@ module _ {X A : Type 0} (v : X → A) where
       map-append v done (y ∷ [])
       ∙ (λ j. h j ++ k j ∷ [])
       ∙ sym (taken_more xs us i x (ap (map v) e ∙ f) p q)
+
+  -- one more entry copied behind what stood before
+  pub pushed_more : (start : List A) (done xs : List X) (us : List A) (i : ℕ) (x y : X) → map v done ≡ start ++ take i us → map v xs ≡ us → i < length xs → x ≡ get_or xs i x → v y ≡ v x → map v (done ++ y ∷ []) ≡ start ++ take (i + 1) us
+  pushed_more start done xs us i x y h e p q k =
+      map-append v done (y ∷ [])
+      ∙ (λ j. h j ++ k j ∷ [])
+      ∙ append_assoc start (take i us) (v x ∷ [])
+      ∙ ap (λ l. start ++ l) (sym (taken_more xs us i x e p q))
 
 -- two lists of pairs with the same first and the same second parts are one
 pub same_pairs : {A B : Type 0} (xs ys : List (A × B)) → map (λ (p : A × B). p.0) xs ≡ map (λ (p : A × B). p.0) ys → map (λ (p : A × B). p.1) xs ≡ map (λ (p : A × B). p.1) ys → xs ≡ ys

@@ -40,7 +40,7 @@ same_comm v w = bool_same (same v w) (same w v)
     (λ h. rw (equal v w h) (same_itself w))
     (λ h. rw (equal w v h) (same_itself v))
 
-reversed : (v w : ValueTree) → cmp v w ≡ Greater → cmp w v ≡ Less
+pub reversed : (v w : ValueTree) → cmp v w ≡ Greater → cmp w v ≡ Less
 reversed v w h = cmp_total.antisymm w v ∙ ap ordering_reverse h
 
 -- ---- rising lists
@@ -164,7 +164,7 @@ any_same v q vs = any_agree (λ _. Unit {0}) (λ w. same v w && q w) (λ w. same
 -- ---- extensionality
 
 -- what is above the head is above it throughout
-above : (x : ValueTree) (xs : List ValueTree) → Below x xs → Rising xs → Each (λ z. cmp x z ≡ Less) xs
+pub above : (x : ValueTree) (xs : List ValueTree) → Below x xs → Rising xs → Each (λ z. cmp x z ≡ Less) xs
 above x [] b r = tt
 above x (y ∷ ys) b r = (b, each_from (λ z. cmp y z ≡ Less) (λ z. cmp x z ≡ Less) ys (λ z h. cmp_total.trans x y z b h) (above y ys r.0 r.1))
 
@@ -179,11 +179,11 @@ unfolding any all
 any_above x q xs b r = rw (not_above_itself x) (any_agree (λ z. cmp x z ≡ Less) (λ z. is_gt (cmp z x) && q z) q xs (above x xs b r) (λ z h. rw (less_from x z h)))
 
 -- nothing in ys is x, where x is below the head
-absent : (x y : ValueTree) (ys : List ValueTree) → cmp x y ≡ Less → Rising (y ∷ ys) → has x (y ∷ ys) ≡ false
+pub absent : (x y : ValueTree) (ys : List ValueTree) → cmp x y ≡ Less → Rising (y ∷ ys) → has x (y ∷ ys) ≡ false
 unfolding same any all
 absent x y ys h r = any_agree (λ z. cmp x z ≡ Less) (same x) (λ _. false) (y ∷ ys) (above x (y ∷ ys) h r) (λ z k. rw k) ∙ any_false (y ∷ ys)
 
-has_head : (x : ValueTree) (xs : List ValueTree) → has x (x ∷ xs) ≡ true
+pub has_head : (x : ValueTree) (xs : List ValueTree) → has x (x ∷ xs) ≡ true
 unfolding any all
 has_head x xs = rw (same_itself x)
 

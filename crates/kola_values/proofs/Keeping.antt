@@ -1,7 +1,7 @@
 -- That what is made of well-formed values is well formed.
-use Rattle.std.proofs.Common.{◌≡◌, ℕ, ◌+◌, ◌<◌, List, [], ◌∷◌, ◌++◌, length, get_or, map, take, refl, sym, ap, subst}
+use Rattle.std.proofs.Common.{◌≡◌, ℕ, ◌+◌, ◌<◌, List, [], ◌∷◌, ◌++◌, length, get_or, map, take, sym, subst}
 use Rattle.kola_core.proofs.Lists.{taken_more}
-use Rattle.kola_values.specs.Values.{ValueTree, VSet, items, of_items, of_fields}
+use Rattle.kola_values.specs.Values.{ValueTree, VSet, of_items, of_fields}
 use Rattle.kola_values.specs.Sets.{Rising, Each}
 use Rattle.kola_values.specs.WellFormed.{WellFormed, WellFormedMembers, WellFormedFields}
 use Rattle.kola_values.specs.Views.{value_tree}

@@ -4,3 +4,5 @@ pub mod Typed
 pub mod Loops
 pub mod SameTypes
 pub mod Keeping
+pub mod Making
+pub mod Merging

@@ -4,6 +4,7 @@
 mod copies;
 mod laws;
 mod order;
+mod set;
 mod ty;
 mod value;
 

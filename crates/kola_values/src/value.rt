@@ -1,5 +1,5 @@
 //! Values, with sets that rise strictly.
-ghost use Rattle.std.specs.Prelude.{◌≡◌, [], ◌∷◌, ◌++◌, map, IfOk, OnOk, OnErr, length, slice_get};
+ghost use Rattle.std.specs.Prelude.{◌≡◌, ◌↔◌, IsTrue, [], ◌∷◌, ◌++◌, map, IfOk, OnOk, OnErr, length, slice_get};
 ghost use Rattle.std.specs.Option.{option_map};
 ghost use Rattle.kola_values.specs.Values.{VPair};
 ghost use Rattle.kola_values.specs.Sets.{Rising, Each};
@@ -334,6 +334,11 @@ impl Set {
         self.members
     }
 
+    /// The allocator that the set keeps.
+    pub fn allocator(&self) -> Global {
+        *self.members.allocator()
+    }
+
     /// The members in rising order.
     pub fn as_slice(&self) -> &[Value]
         ensures { map value_tree result.now ≡ self.now }
@@ -346,6 +351,13 @@ impl Set {
         ensures { result ≡ length self.now }
     {
         self.members.len()
+    }
+
+    /// Whether there is no member.
+    pub fn is_empty(&self) -> bool
+        ensures { IsTrue result ↔ (self.now ≡ []) }
+    {
+        self.members.is_empty()
     }
 
     /// The member at place `n` in rising order, counted from 0; `None` past the end.

@@ -1,5 +1,5 @@
 -- Schemas and databases as lists, the values of a type in a database, and when a database meets a schema.
-use Rattle.std.specs.Prelude.{ℕ, ℤ, pos, negsuc, ◌≤◌, ◌≤ℤ◌, ◌&&◌, ◌||◌, Bool, true, false, cond, List, [], ◌∷◌, Option, Some, None, ◌≡◌, map, filter}
+use Rattle.std.specs.Prelude.{ℕ, ℤ, pos, negsuc, ◌≤ℤ◌, true, cond, List, [], ◌∷◌, Option, Some, None, ◌≡◌, map, filter}
 use Rattle.std.specs.Str.{bytes_eq}
 use Rattle.kola_values.specs.Values.{ValueTree, VUnit, VInt, VBool, VStr, VObj, VPair, VStruct, VSet, FieldValues, VEnd, VField, items}
 use Rattle.kola_values.specs.Order.{same}

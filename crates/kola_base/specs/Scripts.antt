@@ -32,3 +32,14 @@ share s room = min (min s.piece room) (length s.left)
 pub record ScriptedSupply : Type 0 where
   pub supply : Supply
   pub script : Script
+
+-- room in memory for bytes, of which a call takes at most a piece
+pub record Store : Type 0 where
+  pub written : List ℕ
+  pub room : ℕ
+  pub piece : ℕ
+  pub script : Script
+
+-- how many bytes of a piece of this length a call takes: the least of the store's piece, that length and the room that is left
+abbrev pub fitting : Store → ℕ → ℕ
+fitting s offered = min (min s.piece offered) (s.room - length s.written)

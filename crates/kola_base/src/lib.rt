@@ -1,9 +1,13 @@
 //! Where bytes come from and go to, and the tokens of a text.
 #![tactic(auto)]
 
+mod mem_sink;
 mod mem_source;
 mod script;
+mod std_streams;
 mod streams;
 
+pub use mem_sink::{CountSink, MemSink};
 pub use mem_source::{MemSource, SteadySource};
+pub use std_streams::{StdSink, StdSource};
 pub use streams::{Failed, Sink, Source};

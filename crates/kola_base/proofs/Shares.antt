@@ -1,5 +1,5 @@
 -- What a read or a write in memory moves: the least of a piece, the room and what there is.
-use Rattle.std.proofs.Common.{◌≡◌, ℕ, ◌+◌, ◌-◌, ◌≤◌, min, List, ◌++◌, length, take, drop, Some, sym, ap, ◌∙◌, arith, length-append, length-drop}
+use Rattle.std.proofs.Common.{◌≡◌, ℕ, ◌+◌, ◌-◌, ◌≤◌, List, ◌++◌, length, take, drop, Some, sym, ap, ◌∙◌, arith, length-append, length-drop}
 use Rattle.std.proofs.lemmas.List.{take_at, length-take-le, take-append-drop, nil_from_length}
 use Rattle.kola_base.specs.Streams.{Reads}
 use Rattle.kola_base.specs.Scripts.{Supply, share}
@@ -11,6 +11,6 @@ copied_front s old buf after n some is copied rest =
     let long : length buf ≡ n + (length old - n) = omega (arith, ap length copied, length-append (take n s.left) (drop n old), length-drop n old, front) in
     record {
       fits = omega arith;
-      taken = sym (take-append-drop n s.left) ∙ ap (λ l. l ++ drop n s.left) (sym (ap (take n) copied ∙ take_at (take n s.left) (drop n old) n front)) ∙ ap (λ l. take n buf ++ l) (sym rest);
+      taken = ap Some (sym (take-append-drop n s.left) ∙ ap (λ l. l ++ drop n s.left) (sym (ap (take n) copied ∙ take_at (take n s.left) (drop n old) n front)) ∙ ap (λ l. take n buf ++ l) (sym rest));
       end = λ room. (λ none. nil_from_length s.left (omega arith), λ none. omega (arith, ap length none));
     }

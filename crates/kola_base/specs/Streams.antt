@@ -1,12 +1,12 @@
--- What a call does to the bytes that a source has left and to those that a sink took, where these are told.
+-- What a call does to the bytes that a source has left and to those that a sink took. Told bytes stay told, and untold ones untold.
 use Rattle.std.specs.Prelude.{◌≡◌, ◌↔◌, ℕ, ◌<◌, ◌≤◌, List, [], length, take, IfSome}
-use Rattle.std.specs.Io.KnownBytes.{Consumes, Appends}
+use Rattle.std.specs.Io.KnownBytes.{prepend_known, append_known}
 use Rattle.std.specs.declared.option.Option.{Option}
 
 -- a read that answers n took the first n bytes that were left, and put them at the front of the buffer
 pub record Reads (before after : Option (List ℕ)) (buf : List ℕ) (n : ℕ) : Type 0 where
   pub fits : n ≤ length buf
-  pub taken : Consumes before after (take n buf)
+  pub taken : before ≡ prepend_known (take n buf) after
   -- with room it took none exactly where none was left
   pub end : 0 < length buf → IfSome before (λ left. (n ≡ 0) ↔ (left ≡ []))
 
@@ -14,4 +14,4 @@ pub record Reads (before after : Option (List ℕ)) (buf : List ℕ) (n : ℕ) :
 pub record Writes (before after : Option (List ℕ)) (piece : List ℕ) (n : ℕ) : Type 0 where
   pub fits : n ≤ length piece
   pub some : 0 < length piece → 0 < n
-  pub added : Appends before after (take n piece)
+  pub added : after ≡ append_known before (take n piece)

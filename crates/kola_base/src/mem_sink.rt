@@ -1,6 +1,5 @@
 //! Sinks that keep bytes in memory, or none.
 ghost use Rattle.std.specs.Prelude.{◌≡◌, ◌≤◌, ◌<◌, ◌⊎◌, ◌↔◌, None, Some, Ok, [], IsErr, is_err, IfOk, OnErr, Contains, length};
-ghost use Rattle.std.specs.Io.KnownBytes.{Keeps};
 ghost use Rattle.kola_base.specs.Causes.{HasCause};
 ghost use Rattle.kola_base.specs.Streams.{Writes};
 ghost use Rattle.kola_base.specs.Scripts.{counted, unplayed, played, fitting};
@@ -66,7 +65,7 @@ impl Sink for MemSink {
 
     fn write(&mut self, piece: &[u8]) -> Result<usize, Failed>
         ensures ok { IfOk result (λ n. Writes (Some self.old.written) (Some self.new.written) piece.now n) }
-        ensures err { OnErr result (Keeps (Some self.old.written) (Some self.new.written)) }
+        ensures err { OnErr result (self.new.written ≡ self.old.written) }
         ensures cause { HasCause self.old.script.faults self.new.script.faults result }
         ensures failed { IsErr result ↔ (Contains self.old.script.fails (counted self.old.script.calls)
             ⊎ ((0 < length piece.now) × (length self.old.written ≡ self.old.room))) }
@@ -105,7 +104,6 @@ impl Sink for CountSink {
 
     fn write(&mut self, piece: &[u8]) -> Result<usize, Failed>
         ensures ok { IfOk result (λ n. Writes None None piece.now n) }
-        ensures err { OnErr result (Keeps None None) }
         ensures cause { HasCause 0 0 result }
         ensures whole { result ≡ Ok (length piece.now) }
     {

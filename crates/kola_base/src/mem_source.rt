@@ -1,6 +1,5 @@
 //! Sources over bytes in memory.
 ghost use Rattle.std.specs.Prelude.{◌≡◌, ◌≤◌, ◌↔◌, Some, Ok, IsErr, is_err, IfOk, OnErr, Contains, ◌++◌, min, length, take, drop};
-ghost use Rattle.std.specs.Io.KnownBytes.{Keeps};
 ghost use Rattle.kola_base.specs.Causes.{HasCause};
 ghost use Rattle.kola_base.specs.Streams.{Reads};
 ghost use Rattle.kola_base.specs.Scripts.{counted, unplayed, played, share};
@@ -49,7 +48,7 @@ impl Source for SteadySource {
 
     fn read(&mut self, buf: &mut [u8]) -> Result<usize, Failed>
         ensures ok { IfOk result (λ n. Reads (Some self.old.left) (Some self.new.left) buf.new n) }
-        ensures err { OnErr result (Keeps (Some self.old.left) (Some self.new.left)) }
+        ensures err { OnErr result (self.new.left ≡ self.old.left) }
         ensures cause { HasCause 0 0 result }
         ensures gives { result ≡ Ok (share self.old (length buf.old)) }
         ensures piece { self.new.piece ≡ self.old.piece }
@@ -107,7 +106,7 @@ impl Source for MemSource {
 
     fn read(&mut self, buf: &mut [u8]) -> Result<usize, Failed>
         ensures ok { IfOk result (λ n. Reads (Some self.old.supply.left) (Some self.new.supply.left) buf.new n) }
-        ensures err { OnErr result (Keeps (Some self.old.supply.left) (Some self.new.supply.left)) }
+        ensures err { OnErr result (self.new.supply.left ≡ self.old.supply.left) }
         ensures cause { HasCause self.old.script.faults self.new.script.faults result }
         ensures failed { IsErr result ↔ Contains self.old.script.fails (counted self.old.script.calls) }
         ensures gives { IfOk result (λ n. n ≡ share self.old.supply (length buf.old)) }

@@ -1,7 +1,6 @@
 //! Sources and sinks of bytes, which count their failures.
-ghost use Rattle.std.specs.Prelude.{ℕ, List, IfOk, OnErr};
+ghost use Rattle.std.specs.Prelude.{◌≡◌, ℕ, List, IfOk, OnErr};
 ghost use Rattle.std.specs.declared.option.Option.{Option};
-ghost use Rattle.std.specs.Io.KnownBytes.{Keeps};
 ghost use Rattle.kola_base.specs.Causes.{HasCause};
 ghost use Rattle.kola_base.specs.Streams.{Reads, Writes};
 
@@ -21,7 +20,7 @@ pub trait Source {
     /// readers leave it.
     fn read(&mut self, buf: &mut [u8]) -> Result<usize, Failed>
         ensures ok { IfOk result (λ n. Reads (left self.old) (left self.new) buf.new n) }
-        ensures err { OnErr result (Keeps (left self.old) (left self.new)) }
+        ensures err { OnErr result (left self.new ≡ left self.old) }
         ensures cause { HasCause (faults self.old) (faults self.new) result };
 }
 
@@ -36,6 +35,6 @@ pub trait Sink {
     /// Takes bytes from the front of `piece` and answers how many.
     fn write(&mut self, piece: &[u8]) -> Result<usize, Failed>
         ensures ok { IfOk result (λ n. Writes (written self.old) (written self.new) piece.now n) }
-        ensures err { OnErr result (Keeps (written self.old) (written self.new)) }
+        ensures err { OnErr result (written self.new ≡ written self.old) }
         ensures cause { HasCause (faults self.old) (faults self.new) result };
 }

@@ -6,6 +6,8 @@ mod mem_source;
 mod reading;
 mod script;
 mod std_streams;
+#[cfg(test)]
+mod stream_tests;
 mod streams;
 mod writing;
 

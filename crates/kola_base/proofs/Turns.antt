@@ -1,10 +1,12 @@
 -- One turn more of a loop that reads a source or writes to a sink.
-use Rattle.std.proofs.Common.{◌≡◌, ◌↔◌, IfSome, subst, ℕ, ◌+◌, ◌-◌, ◌<◌, List, [], ◌++◌, length, take, drop, None, Some, refl, sym, ap, ◌∙◌, append_assoc, append-nil}
+use Rattle.std.proofs.Common.{◌≡◌, ◌≤◌, Vec, Ok, arith, length-take, ◌↔◌, IfSome, subst, ℕ, ◌+◌, ◌-◌, ◌<◌, List, [], ◌++◌, length, take, drop, None, Some, refl, sym, ap, ◌∙◌, append_assoc}
 use Rattle.std.proofs.Math.Seq.{take-add}
 use Rattle.std.proofs.lemmas.List.{take_rest}
 use Rattle.std.specs.Io.KnownBytes.{prepend_known, append_known, IsAtEnd}
 use Rattle.std.specs.declared.option.Option.{Option}
+use Rattle.std.specs.declared.alloc.Global.{Global}
 use Rattle.kola_base.specs.Streams.{Reads, Writes}
+use Rattle.kola_base.specs.ReadToEnd.{Taking}
 
 prepended : (bs cs : List ℕ) (o : Option (List ℕ)) → prepend_known bs (prepend_known cs o) ≡ prepend_known (bs ++ cs) o
 prepended bs cs None = refl
@@ -13,10 +15,6 @@ prepended bs cs (Some left) = ap Some (sym (append_assoc bs cs left))
 appended : (o : Option (List ℕ)) (bs cs : List ℕ) → append_known (append_known o bs) cs ≡ append_known o (bs ++ cs)
 appended None bs cs = refl
 appended (Some written) bs cs = ap Some (append_assoc written bs cs)
-
-pub append_none : (o : Option (List ℕ)) → o ≡ append_known o []
-append_none None = refl
-append_none (Some written) = ap Some (sym (append-nil written))
 
 -- n bytes more were written of those behind the first w
 pub wrote_more : (a b c : Option (List ℕ)) (bytes : List ℕ) (w n : ℕ) → b ≡ append_known a (take w bytes) → Writes b c (take (length bytes - w) (drop w bytes)) n → c ≡ append_known a (take (w + n) bytes)
@@ -34,3 +32,14 @@ at_end b None buf n room none read = tt
 at_end b (Some rest) buf n room none read =
     let end : (n ≡ 0) ↔ (take n buf ++ rest ≡ []) = subst (λ o. IfSome o (λ left. (n ≡ 0) ↔ (left ≡ []))) read.taken (read.end room) in
     subst (λ k. take k buf ++ rest ≡ []) none (end.0 none)
+
+-- a last read took no byte, so the first f bytes are all
+pub all_taken : (limit : ℕ) (a b c : Option (List ℕ)) (old new : List ℕ) (f n : ℕ) (bytes : Vec ℕ Global) → f ≤ limit → take f new ≡ take f old → a ≡ prepend_known (take f old) b → Reads b c (drop f new) n → n ≡ 0
+    → 0 < length (drop f new) → bytes.items ≡ take f new → Taking limit a c (Ok bytes)
+all_taken limit a b c old new f n bytes within front before read none room whole =
+    let same : f + n ≡ f = omega arith in
+    record {
+      taken = bytes.items;
+      front = read_more a b c old new f n front before read ∙ ap (λ l. prepend_known l c) (ap (λ k. take k new) same ∙ sym whole);
+      answer = (refl, omega (arith, ap length whole, length-take f new), at_end b c (drop f new) n room none read);
+    }

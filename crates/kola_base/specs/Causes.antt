@@ -7,5 +7,5 @@ Rose before now = min (before + 1) (2 ^ 64 - 1) ≤ now
 
 -- the count does not fall, and a failure is answered only where it rose
 pub record HasCause {T E : Type 0} (before now : ℕ) (result : Result T E) : Type 0 where
-  pub later : before ≤ now
+  pub no_less : before ≤ now
   pub failed : OnErr result (Rose before now)

@@ -15,3 +15,8 @@ pub record Writes (before after : Option (List ℕ)) (piece : List ℕ) (n : ℕ
   pub fits : n ≤ length piece
   pub some : 0 < length piece → 0 < n
   pub added : after ≡ append_known before (take n piece)
+
+-- a reader or a writer of std, and how many of its calls failed
+pub record Watched (T : Type 0) : Type 0 where
+  pub inner : T
+  pub faults : ℕ

@@ -47,7 +47,7 @@ pub fn read_all<S: Source>(
 ) -> Result<Vec<u8>, ReadAllFault>
     requires { limit < usize.MAX }
 
-    ensures later { S.faults source.old ≤ S.faults source.new }
+    ensures no_less { S.faults source.old ≤ S.faults source.new }
     ensures read { IsErrOf result ReadAllFault.Read → Rose (S.faults source.old) (S.faults source.new) }
 
     // Whatever it answers, a told source lost exactly the bytes that were taken.
@@ -87,7 +87,7 @@ fn read_more<S: Source>(
     ensures ok { IfOk result (λ n. Reads (S.left source.old) (S.left source.new) (drop filled bytes.new.items) n) }
     ensures room { IfOk result (λ n. filled < vec_len bytes.new) }
     ensures err { OnErr result (S.left source.new ≡ S.left source.old) }
-    ensures later { S.faults source.old ≤ S.faults source.new }
+    ensures no_less { S.faults source.old ≤ S.faults source.new }
     ensures read { IsErrOf result ReadAllFault.Read → Rose (S.faults source.old) (S.faults source.new) }
     ensures not_too_long { result ≢ Err ReadAllFault.TooLong }
 {

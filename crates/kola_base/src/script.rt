@@ -45,7 +45,7 @@ impl Script {
     /// Counts a failure.
     pub fn fail(&mut self) -> Failed
         ensures after { self.new ≡ record self.old { faults = counted self.old.faults } }
-        ensures later { self.old.faults ≤ self.new.faults }
+        ensures no_less { self.old.faults ≤ self.new.faults }
     {
         self.faults = self.faults.saturating_add(1);
         Failed

@@ -6,7 +6,7 @@ abbrev pub invariant-loop-filled : goal.invariant-loop-filled
 invariant-loop-filled g l = record {
   within : l.filled ≤ vec_len l.bytes;
   bounded : l.filled ≤ l.limit + 1;
-  later : g.S.Source.faults l.initial.source ≤ g.S.Source.faults l.source;
+  no_less : g.S.Source.faults l.initial.source ≤ g.S.Source.faults l.source;
   taken : g.S.Source.left l.initial.source ≡ prepend_known (take l.filled l.bytes.items) (g.S.Source.left l.source);
 }
 

@@ -9,6 +9,6 @@ loop-written-preserved g c =
     let w = c.loop-written.written in
     record {
       within = omega (arith, wrote.fits, length-take (length bytes - w) (drop w bytes), length-drop w bytes);
-      later = omega (arith, c.in-Ok.ensures.cause.later);
+      no_less = omega (arith, c.in-Ok.ensures.cause.no_less);
       added = wrote_more _ _ _ bytes w c.in-Ok.count c.loop-written.invariant.added wrote;
     }

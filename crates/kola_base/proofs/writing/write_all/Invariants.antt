@@ -5,7 +5,7 @@ use Rattle.kola_base.proofs.writing.write_all.Given as goal
 abbrev pub invariant-loop-written : goal.invariant-loop-written
 invariant-loop-written g l = record {
   within : l.written ≤ length l.bytes;
-  later : g.K.Sink.faults l.initial.sink ≤ g.K.Sink.faults l.sink;
+  no_less : g.K.Sink.faults l.initial.sink ≤ g.K.Sink.faults l.sink;
   added : g.K.Sink.written l.sink ≡ append_known (g.K.Sink.written l.initial.sink) (take l.written l.bytes);
 }
 

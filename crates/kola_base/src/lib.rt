@@ -1,2 +1,19 @@
 //! Where bytes come from and go to, and the tokens of a text.
 #![tactic(auto)]
+
+mod mem_sink;
+mod mem_source;
+mod reading;
+mod script;
+mod std_streams;
+#[cfg(test)]
+mod stream_tests;
+mod streams;
+mod writing;
+
+pub use mem_sink::{CountSink, MemSink};
+pub use mem_source::{MemSource, SteadySource};
+pub use reading::{ReadAllFault, read_all};
+pub use std_streams::{StdSink, StdSource};
+pub use streams::{Failed, Sink, Source};
+pub use writing::{WriteFault, write_all};

@@ -1,0 +1,7 @@
+pub mod Longest
+pub mod Digits
+pub mod OneCut
+pub mod Cutting
+pub mod Spans
+pub mod Total
+mod Examples

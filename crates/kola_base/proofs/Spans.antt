@@ -10,7 +10,7 @@ use Rattle.kola_base.specs.declared.lex.Kind.{Kind}
 use Rattle.kola_base.specs.declared.lex.Kind.TheVariants as kinds
 use Rattle.kola_base.specs.declared.lex.Token.{Token}
 use Rattle.kola_base.specs.Pieces.{IsLongest}
-use Rattle.kola_base.specs.Tokens.{IsSound, Cuts, token_of, tokens_of, end_at, AreTokens, IsOfKind, IsTokenIn}
+use Rattle.kola_base.specs.Tokens.{IsSound, Cuts, kind_of, token_of, tokens_of, end_at, AreTokens, IsOfKind, IsTokenIn}
 use Rattle.kola_base.proofs.OneCut.{has_byte}
 
 -- the n bytes at a place, which a piece has
@@ -25,7 +25,7 @@ module _ (text : List ℕ) (at n : ℕ) where
     is = subst (IsOfKind k) (sym bytes_are) is;
   }) (All-nil (IsTokenIn text))
 
-  token_in : (s : Sort) → IsLongest s n (drop at text) → IsSound s (take n (drop at text)) → All (IsTokenIn text) (token_of s at (at + n))
+  token_in : (s : Sort) → IsLongest s n (drop at text) → IsSound s (take n (drop at text)) → All (IsTokenIn text) (token_of (kind_of s) at (at + n))
   token_in sorts.Blank l h = All-nil (IsTokenIn text)
   token_in sorts.Comment l h = All-nil (IsTokenIn text)
   token_in sorts.Word l h = one_in kinds.Word (has_byte sorts.Word n (drop at text) l) l.within l.is
@@ -34,7 +34,7 @@ module _ (text : List ℕ) (at n : ℕ) where
 
 tokens_in : (ps : List (Sort × ℕ)) (at : ℕ) (text : List ℕ) → Cuts ps (drop at text) [] → All (IsTokenIn text) (tokens_of at ps)
 tokens_in [] at text h = All-nil (IsTokenIn text)
-tokens_in (p ∷ ps) at text h = All-append (IsTokenIn text) (token_of p.0 at (at + p.1)) (tokens_of (at + p.1) ps)
+tokens_in (p ∷ ps) at text h = All-append (IsTokenIn text) (token_of (kind_of p.0) at (at + p.1)) (tokens_of (at + p.1) ps)
     (token_in text at p.1 p.0 h.0 h.1)
     (tokens_in ps (at + p.1) text (subst (λ r. Cuts ps r []) (drop-drop p.1 at text) h.2))
 

@@ -1,5 +1,5 @@
 -- A text cut into its longest pieces: its tokens, and its first lexical fault.
-use Rattle.std.specs.Prelude.{◌≡◌, ℕ, ◌+◌, ◌<◌, ◌≤◌, List, [], ◌∷◌, ◌++◌, length, take, drop, true, false, slice_range}
+use Rattle.std.specs.Prelude.{◌≡◌, ℕ, ◌+◌, ◌<◌, ◌≤◌, List, [], ◌∷◌, ◌++◌, length, take, drop, true, false, Option, Some, None, slice_range}
 use Rattle.kola_base.specs.declared.scan.Sort.{Sort}
 use Rattle.kola_base.specs.declared.scan.Sort.TheVariants as sorts
 use Rattle.kola_base.specs.declared.lex.Kind.{Kind}
@@ -27,18 +27,23 @@ Cuts (p ∷ ps) text rest = IsLongest p.0 p.1 text × IsSound p.0 (take p.1 text
 -- ---- tokens
 
 -- blanks and comments are no tokens
-abbrev pub token_of : Sort → ℕ → ℕ → List Token
-token_of sorts.Blank from to = []
-token_of sorts.Comment from to = []
-token_of sorts.Word from to = record { kind = kinds.Word; from = from; to = to } ∷ []
-token_of sorts.Number from to = record { kind = kinds.Number; from = from; to = to } ∷ []
-token_of sorts.Sign from to = record { kind = kinds.Sign; from = from; to = to } ∷ []
+abbrev pub kind_of : Sort → Option Kind
+kind_of sorts.Blank = None
+kind_of sorts.Comment = None
+kind_of sorts.Word = Some kinds.Word
+kind_of sorts.Number = Some kinds.Number
+kind_of sorts.Sign = Some kinds.Sign
+
+abbrev pub token_of : Option Kind → ℕ → ℕ → List Token
+token_of None from to = []
+token_of (Some k) from to = record { kind = k; from = from; to = to } ∷ []
 
 -- the tokens of pieces that begin at a place
 abbrev pub tokens_of : ℕ → List (Sort × ℕ) → List Token
 tokens_of at [] = []
-tokens_of at (p ∷ ps) = token_of p.0 at (at + p.1) ++ tokens_of (at + p.1) ps
+tokens_of at (p ∷ ps) = token_of (kind_of p.0) at (at + p.1) ++ tokens_of (at + p.1) ps
 
+-- the token of the end
 abbrev pub end_at : ℕ → Token
 end_at at = record { kind = kinds.End; from = at; to = at }
 

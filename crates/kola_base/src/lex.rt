@@ -6,7 +6,7 @@ ghost use Rattle.kola_base.specs.declared.lex.LexFault.TheVariants.{At, Memory};
 ghost use Rattle.kola_base.specs.declared.lex.LexWhy.{LexWhy};
 ghost use Rattle.kola_base.specs.declared.lex.Token.{Token};
 ghost use Rattle.kola_base.specs.Pieces.{IsLongest};
-ghost use Rattle.kola_base.specs.Tokens.{end_at, token_of, AreTokens, IsFaultOf, IsSound, IsStuck, IsTokenIn, StopsAt};
+ghost use Rattle.kola_base.specs.Tokens.{kind_of, token_of, AreTokens, IsFaultOf, IsSound, IsStuck, IsTokenIn, StopsAt};
 
 use crate::number::value_of;
 use crate::scan::{Sort, longest_piece};
@@ -20,7 +20,7 @@ pub enum Kind {
     Word,
     /// Decimal digits, directly behind a `-` where the integer is negative.
     Number,
-    /// A text between double quotes on one line.
+    /// A text between double quotes on one line. No text has one so far.
     Quoted,
     /// One of `( ) { } < > <= >= = != , ; : . -> || | & ~ @ *`.
     Sign,
@@ -36,7 +36,7 @@ pub struct Token {
     pub to: usize,
 }
 
-/// Why a text has no tokens.
+/// Why a text has no tokens. A string is not read so far: a double quote outside a comment is `BadByte`.
 #[derive(Clone, Copy, Debug, PartialEq, Eq, Error)]
 pub enum LexWhy {
     /// No token begins with this byte and what follows it.
@@ -74,40 +74,30 @@ impl From<AllocError> for LexFault {
     }
 }
 
-/// Puts a piece at the end where it is a token.
-fn push_piece(out: &mut Vec<Token>, sort: Sort, from: usize, to: usize) -> Result<(), AllocError>
-    ensures { OnOk result (out.new.items ≡ out.old.items ++ token_of sort from to) }
+/// The kind of the token that a piece is; blanks and comments are none.
+fn kind_of(sort: Sort) -> Option<Kind>
+    ensures { result ≡ kind_of sort }
 {
     match sort {
-        Sort::Blank | Sort::Comment => {}
-        Sort::Word => out.push(Token {
-            kind: Kind::Word,
-            from,
-            to,
-        })?,
-        Sort::Number => out.push(Token {
-            kind: Kind::Number,
-            from,
-            to,
-        })?,
-        Sort::Sign => out.push(Token {
-            kind: Kind::Sign,
-            from,
-            to,
-        })?,
+        Sort::Blank | Sort::Comment => None,
+        Sort::Word => Some(Kind::Word),
+        Sort::Number => Some(Kind::Number),
+        Sort::Sign => Some(Kind::Sign),
     }
-    Ok(())
 }
 
-/// Puts the end of the text at the end.
-fn push_end(out: &mut Vec<Token>, at: usize) -> Result<(), AllocError>
-    ensures { OnOk result (out.new.items ≡ out.old.items ++ end_at at ∷ []) }
+/// Puts a token at the end, if there is one.
+fn push_token(
+    out: &mut Vec<Token>,
+    kind: Option<Kind>,
+    from: usize,
+    to: usize,
+) -> Result<(), AllocError>
+    ensures { OnOk result (out.new.items ≡ out.old.items ++ token_of kind from to) }
 {
-    out.push(Token {
-        kind: Kind::End,
-        from: at,
-        to: at,
-    })?;
+    if let Some(kind) = kind {
+        out.push(Token { kind, from, to })?;
+    }
     Ok(())
 }
 
@@ -154,10 +144,10 @@ pub fn tokens(alloc: Global, text: &[u8]) -> Result<Vec<Token>, LexFault>
             Ok(piece) => piece,
             Err(why) => return Err(LexFault::At { at, why }),
         };
-        push_piece(&mut out, sort, at, at + len)?;
+        push_token(&mut out, kind_of(sort), at, at + len)?;
         at += len;
     }
-    push_end(&mut out, at)?;
+    push_token(&mut out, Some(Kind::End), at, at)?;
     Ok(out)
 }
 
@@ -166,9 +156,10 @@ pub fn lexed_once(text: &[u8])
     ensures some { ((ts : List Token) × AreTokens ts text.now)
         ⊎ ((at : ℕ) × (why : LexWhy) × StopsAt text.now at why) }
     ensures one_list { (ts us : List Token) → AreTokens ts text.now → AreTokens us text.now → ts ≡ us }
-    ensures one_fault { (at to : ℕ) (why cause : LexWhy) → StopsAt text.now at why → StopsAt text.now to cause →
-        (at ≡ to) × (why ≡ cause) }
-    ensures not_both { (ts : List Token) (at : ℕ) (why : LexWhy) → AreTokens ts text.now → StopsAt text.now at why → ⊥ }
+    ensures one_fault { (at to : ℕ) (why cause : LexWhy) →
+        StopsAt text.now at why → StopsAt text.now to cause → (at ≡ to) × (why ≡ cause) }
+    ensures not_both { (ts : List Token) (at : ℕ) (why : LexWhy) →
+        AreTokens ts text.now → StopsAt text.now at why → ⊥ }
 {}
 
 #[cfg(test)]

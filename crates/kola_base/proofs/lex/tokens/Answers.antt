@@ -5,24 +5,24 @@ use Rattle.kola_base.proofs.Cutting.{cut_more, cut_all, cut_stops}
 use Rattle.kola_base.proofs.OneCut.{one_list, one_fault, not_both}
 use Rattle.kola_base.proofs.Spans.{all_in}
 use Rattle.kola_base.proofs.lex.tokens.Goals as goal
-use Rattle.kola_base.proofs.lex.tokens.Goals.{In_ok-push_end, After-drop-out}
+use Rattle.kola_base.proofs.lex.tokens.Goals.{In_ok-push_token-2, After-drop-out}
 
 pub loop-at-preserved : goal.loop-at-preserved
-loop-at-preserved c = cut_more c.args.text.now c.loop-at.out.items c.push_piece.new.out.items c.loop-at.at c.in-Ok.piece.0 c.in-Ok.piece.1 c.loop-at.invariant (rw c.split_at.ensures.back at c.in-Ok.ensures.ok) (rw c.split_at.ensures.back at c.in-Ok.ensures.sound) c.in_ok-push_piece.ensures
+loop-at-preserved c = cut_more c.args.text.now c.loop-at.out.items c.push_token.new.out.items c.loop-at.at c.in-Ok.piece.0 c.in-Ok.piece.1 c.loop-at.invariant (rw c.split_at.ensures.back at c.in-Ok.ensures.ok) (rw c.split_at.ensures.back at c.in-Ok.ensures.sound) (rw c.kind_of.ensures at c.in_ok-push_token.ensures)
 
 -- ---- at the end these are the tokens
 
-are_tokens : (c : In_ok-push_end) → AreTokens c.push_end.new.out.items c.args.text.now
-are_tokens c = cut_all c.args.text.now c.loop-at.out.items c.loop-at.at c.push_end.new.out.items c.loop-at.invariant c.loop-at-test.false c.in_ok-push_end.ensures
+are_tokens : (c : In_ok-push_token-2) → AreTokens c.push_token-2.new.out.items c.args.text.now
+are_tokens c = cut_all c.args.text.now c.loop-at.out.items c.loop-at.at c.push_token-2.new.out.items c.loop-at.invariant c.loop-at-test.false c.in_ok-push_token-2.ensures
 
 pub returns-clause-only_tokens : goal.returns-clause-only_tokens
-returns-clause-only_tokens c = λ ts a. one_list c.push_end.new.out.items ts c.args.text.now (are_tokens c) a
+returns-clause-only_tokens c = λ ts a. one_list c.push_token-2.new.out.items ts c.args.text.now (are_tokens c) a
 
 pub returns-clause-only_fault : goal.returns-clause-only_fault
-returns-clause-only_fault c = λ at why f. not_both c.push_end.new.out.items c.args.text.now at why (are_tokens c) f
+returns-clause-only_fault c = λ at why f. not_both c.push_token-2.new.out.items c.args.text.now at why (are_tokens c) f
 
 pub returns-clause-spans : goal.returns-clause-spans
-returns-clause-spans c = all_in c.push_end.new.out.items c.args.text.now (are_tokens c)
+returns-clause-spans c = all_in c.push_token-2.new.out.items c.args.text.now (are_tokens c)
 
 -- ---- where nothing goes on, this is the fault
 

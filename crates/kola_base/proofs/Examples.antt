@@ -1,63 +1,58 @@
--- The definitions at small values.
-use Rattle.std.proofs.Common.{◌≡◌, ◌-◌, ◌^◌, [], ◌∷◌, ◌++◌, true, false, None, Some, Err, refl, lit≤, lit<, arith}
-use Rattle.std.specs.Prelude.{codes}
-use Rattle.kola_base.specs.declared.reading.ReadAllFault.TheVariants.{TooLong}
-use Rattle.kola_base.specs.Causes.{Rose}
-use Rattle.kola_base.specs.Streams.{Reads, Writes}
-use Rattle.kola_base.specs.ReadToEnd.{IsAnswer, AnswersTo}
-use Rattle.kola_base.specs.Scripts.{counted, unplayed, played, share, fitting}
+-- Examples of the definitions, each computed.
+use Rattle.std.proofs.Common.{◌≡◌, [], ◌∷◌, ◌++◌, map, true, false, refl}
+use Rattle.std.specs.Prelude.{pos, negsuc, codes}
+use Rattle.std.specs.List.{list_all}
+use Rattle.kola_base.specs.declared.class.Class.TheVariants.{Blank, LineEnd, Letter, Digit, Minus, Slash, Less, Greater, Equal, Bang, Bar, Single, Other}
+use Rattle.kola_base.specs.declared.scan.Sort.TheVariants as sorts
+use Rattle.kola_base.specs.declared.lex.Kind.TheVariants as kinds
+use Rattle.kola_base.specs.Pieces.{class, piece}
+use Rattle.kola_base.specs.Numbers.{number_value, in_range}
+use Rattle.kola_base.specs.Tokens.{tokens_of, end_at}
+use Rattle.kola_base.specs.Lexemes.{LWord, LNumber, LSign, lexemes}
 
-risen : Rose 3 4
-risen = lit≤ tt
+classes : map class (codes "_a9 -/<>=!|.") ≡ Letter ∷ Letter ∷ Digit ∷ Blank ∷ Minus ∷ Slash ∷ Less ∷ Greater ∷ Equal ∷ Bang ∷ Bar ∷ Single ∷ []
+classes = refl
 
--- at the end of the type the count can rise no more
-at_the_end : Rose (2 ^ 64 - 1) (2 ^ 64 - 1)
-at_the_end = lit≤ tt
+-- tab, LF, CR, a double quote, and bytes past ASCII
+other_classes : map class (9 ∷ 10 ∷ 13 ∷ 34 ∷ 195 ∷ 255 ∷ []) ≡ Blank ∷ LineEnd ∷ Blank ∷ Other ∷ Other ∷ Other ∷ []
+other_classes = refl
 
-not_risen : Rose 3 3 → ⊥
-not_risen rose = omega arith
+-- ---- pieces
 
--- over a source whose count is constantly 0 no read fails
-steady : Rose 0 0 → ⊥
-steady rose = omega arith
+signs : list_all (piece sorts.Sign) (codes "(" ∷ codes ")" ∷ codes "{" ∷ codes "}" ∷ codes "<" ∷ codes ">" ∷ codes "<=" ∷ codes ">=" ∷ codes "=" ∷ codes "!=" ∷ codes "," ∷ codes ";" ∷ codes ":" ∷ codes "." ∷ codes "->" ∷ codes "||" ∷ codes "|" ∷ codes "&" ∷ codes "~" ∷ codes "@" ∷ codes "*" ∷ []) ≡ true
+signs = refl
 
-read_front : Reads (Some (codes "query")) (Some (codes "ry")) (codes "que" ++ 0 ∷ []) 3
-read_front = record { fits = lit≤ tt; taken = refl; end = λ room. (λ none. cc, λ none. cc) }
+no_signs : map (piece sorts.Sign) (codes "!" ∷ codes "-" ∷ codes "/" ∷ codes "==" ∷ codes "=>" ∷ codes "<-" ∷ codes "&&" ∷ codes "//" ∷ codes "a" ∷ []) ≡ false ∷ false ∷ false ∷ false ∷ false ∷ false ∷ false ∷ false ∷ false ∷ []
+no_signs = refl
 
-untold_read : Reads None None (codes "que") 2
-untold_read = record { fits = lit≤ tt; taken = refl; end = λ room. tt }
+words : map (piece sorts.Word) (codes "x" ∷ codes "_1" ∷ codes "aB_2" ∷ codes "2a" ∷ codes "a-b" ∷ codes "" ∷ []) ≡ true ∷ true ∷ true ∷ false ∷ false ∷ false ∷ []
+words = refl
 
-wrote_front : Writes (Some (codes "ok")) (Some (codes "ok: tru")) (codes ": true") 5
-wrote_front = record { fits = lit≤ tt; some = λ any. lit< tt; added = refl }
+numbers : map (piece sorts.Number) (codes "0" ∷ codes "-0012" ∷ codes "-" ∷ codes "--1" ∷ codes "1a" ∷ codes "+1" ∷ []) ≡ true ∷ true ∷ false ∷ false ∷ false ∷ false ∷ []
+numbers = refl
 
-too_long : IsAnswer 4 (codes "query") (Some (codes "...")) (Err TooLong)
-too_long = refl
+comments : map (piece sorts.Comment) (codes "//" ∷ codes "// \"%" ∷ codes "/" ∷ (codes "// a" ++ 10 ∷ []) ∷ []) ≡ true ∷ true ∷ false ∷ false ∷ []
+comments = refl
 
-too_long_for : AnswersTo 4 (codes "query") (Err TooLong)
-too_long_for = lit< tt
+-- ---- numbers
 
--- 8 bytes a call, into a larger buffer
-eight : share (record { left = codes "select distinct"; piece = 8 }) 64 ≡ 8
-eight = refl
+twelve : number_value (codes "-0012") ≡ negsuc 11
+twelve = refl
 
--- and the last 7 of 15
-seven : share (record { left = codes "istinct"; piece = 8 }) 64 ≡ 7
-seven = refl
+zero_twice : (number_value (codes "-0") ≡ pos 0) × (number_value (codes "0") ≡ pos 0)
+zero_twice = (refl, refl)
 
--- 7 bytes a call
-first_write : fitting (record { written = []; room = 64; piece = 7; script = unplayed (2 ∷ []) }) 40 ≡ 7
-first_write = refl
+ends : (in_range (number_value (codes "-9223372036854775808")) ≡ true) × (in_range (number_value (codes "9223372036854775807")) ≡ true)
+ends = (refl, refl)
 
--- a room of 10 has 3 left
-last_write : fitting (record { written = codes "query: "; room = 10; piece = 7; script = unplayed [] }) 40 ≡ 3
-last_write = refl
+past_ends : (in_range (number_value (codes "-9223372036854775809")) ≡ false) × (in_range (number_value (codes "9223372036854775808")) ≡ false)
+past_ends = (refl, refl)
 
--- the second call fails
-first_call : played (unplayed (2 ∷ [])) false ≡ record { fails = 2 ∷ []; calls = 1; faults = 0 }
-first_call = refl
+-- ---- tokens and what they say
 
-second_call : played (played (unplayed (2 ∷ [])) false) true ≡ record { fails = 2 ∷ []; calls = 2; faults = 1 }
-second_call = refl
+-- x<=-5 // end
+cut : tokens_of 0 ((sorts.Word, 1) ∷ (sorts.Sign, 2) ∷ (sorts.Number, 2) ∷ (sorts.Blank, 1) ∷ (sorts.Comment, 6) ∷ []) ≡ record { kind = kinds.Word; from = 0; to = 1 } ∷ record { kind = kinds.Sign; from = 1; to = 3 } ∷ record { kind = kinds.Number; from = 3; to = 5 } ∷ []
+cut = refl
 
-last_count : counted (2 ^ 64 - 1) ≡ 2 ^ 64 - 1
-last_count = refl
+said : lexemes (codes "x<=-5 // end") (record { kind = kinds.Word; from = 0; to = 1 } ∷ record { kind = kinds.Sign; from = 1; to = 3 } ∷ record { kind = kinds.Number; from = 3; to = 5 } ∷ end_at 12 ∷ []) ≡ LWord (codes "x") ∷ LSign (codes "<=") ∷ LNumber (negsuc 4) ∷ []
+said = refl

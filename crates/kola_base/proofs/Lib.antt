@@ -1,3 +1,10 @@
-mod Examples
+mod StreamExamples
 mod Shares
 mod Turns
+pub mod Longest
+pub mod Digits
+pub mod OneCut
+pub mod Cutting
+pub mod Spans
+pub mod Total
+mod Examples

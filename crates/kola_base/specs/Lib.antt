@@ -2,3 +2,8 @@ pub mod Causes
 pub mod Streams
 pub mod Scripts
 pub mod ReadToEnd
+pub mod Pieces
+pub mod Scanning
+pub mod Numbers
+pub mod Tokens
+pub mod Lexemes

@@ -1,0 +1,37 @@
+-- The first piece as it is found from left to right, over the classes of the bytes.
+use Rattle.std.specs.Prelude.{ℕ, suc, List, [], ◌∷◌, Option, Some, None}
+use Rattle.std.specs.List.{prefix_len}
+use Rattle.kola_base.specs.declared.class.Class.{Class}
+use Rattle.kola_base.specs.declared.class.Class.TheVariants.{Blank, LineEnd, Letter, Digit, Minus, Slash, Less, Greater, Equal, Bang, Bar, Single, Other}
+use Rattle.kola_base.specs.declared.scan.Sort.{Sort}
+use Rattle.kola_base.specs.declared.scan.Sort.TheVariants as sorts
+use Rattle.kola_base.specs.Pieces.{goes_on}
+
+-- the class of the next byte, and that of no piece at the end
+abbrev pub next_class : List Class → Class
+next_class [] = Other
+next_class (k ∷ ks) = k
+
+-- the sort of the first piece and how many bytes it has, by the classes of its first two bytes
+abbrev pub first_by : Class → Class → List Class → Option (Sort × ℕ)
+first_by Blank _ ks = Some (sorts.Blank, 1)
+first_by LineEnd _ ks = Some (sorts.Blank, 1)
+first_by Slash Slash ks = Some (sorts.Comment, suc (prefix_len (goes_on sorts.Comment) ks))
+first_by Letter _ ks = Some (sorts.Word, suc (prefix_len (goes_on sorts.Word) ks))
+first_by Digit _ ks = Some (sorts.Number, suc (prefix_len (goes_on sorts.Number) ks))
+first_by Minus Digit ks = Some (sorts.Number, suc (prefix_len (goes_on sorts.Number) ks))
+first_by Minus Greater ks = Some (sorts.Sign, 2)
+first_by Single _ ks = Some (sorts.Sign, 1)
+first_by Less Equal ks = Some (sorts.Sign, 2)
+first_by Less _ ks = Some (sorts.Sign, 1)
+first_by Greater Equal ks = Some (sorts.Sign, 2)
+first_by Greater _ ks = Some (sorts.Sign, 1)
+first_by Equal _ ks = Some (sorts.Sign, 1)
+first_by Bang Equal ks = Some (sorts.Sign, 2)
+first_by Bar Bar ks = Some (sorts.Sign, 2)
+first_by Bar _ ks = Some (sorts.Sign, 1)
+first_by _ _ ks = None
+
+abbrev pub first_piece : List Class → Option (Sort × ℕ)
+first_piece [] = None
+first_piece (k ∷ ks) = first_by k (next_class ks) ks

@@ -1,0 +1,280 @@
+//! The tokens of a text.
+
+ghost use Rattle.std.specs.Prelude.{◌≡◌, [], ◌∷◌, ◌++◌, ◌<◌, ◌⊎◌, ℕ, List, length, take, IfOk, IfErr, OnOk, MatchResult};
+ghost use Rattle.std.specs.List.{All};
+ghost use Rattle.kola_base.specs.declared.lex.LexFault.TheVariants.{At, Memory};
+ghost use Rattle.kola_base.specs.declared.lex.LexWhy.{LexWhy};
+ghost use Rattle.kola_base.specs.declared.lex.Token.{Token};
+ghost use Rattle.kola_base.specs.Pieces.{IsLongest};
+ghost use Rattle.kola_base.specs.Tokens.{kind_of, token_of, AreTokens, IsFaultOf, IsSound, IsStuck, IsTokenIn, StopsAt};
+
+use crate::number::value_of;
+use crate::scan::{Sort, longest_piece};
+use std::alloc::{AllocError, Global};
+use thiserror::Error;
+
+/// What a token is.
+#[derive(Clone, Copy, Debug, PartialEq, Eq)]
+pub enum Kind {
+    /// An ASCII letter or `_`, then letters, digits and `_`.
+    Word,
+    /// Decimal digits, directly behind a `-` where the integer is negative.
+    Number,
+    /// A text between double quotes on one line. No text has one so far.
+    Quoted,
+    /// One of `( ) { } < > <= >= = != , ; : . -> || | & ~ @ *`.
+    Sign,
+    /// The end of the text.
+    End,
+}
+
+/// A token of a text, whose bytes stand from `from` to before `to`, counted from 0.
+#[derive(Clone, Copy, Debug, PartialEq, Eq)]
+pub struct Token {
+    pub kind: Kind,
+    pub from: usize,
+    pub to: usize,
+}
+
+/// Why a text has no tokens. A string is not read so far: a double quote outside a comment is `BadByte`.
+#[derive(Clone, Copy, Debug, PartialEq, Eq, Error)]
+pub enum LexWhy {
+    /// No token begins with this byte and what follows it.
+    #[error("BadByte")]
+    BadByte,
+    /// A string does not end on its line.
+    #[error("OpenString")]
+    OpenString,
+    /// A string has an escape that is none.
+    #[error("BadEscape")]
+    BadEscape,
+    /// A number is not one of 64 bits.
+    #[error("NumberTooLarge")]
+    NumberTooLarge,
+    /// A string has a byte that is of no UTF-8 character.
+    #[error("NotUtf8")]
+    NotUtf8,
+}
+
+/// The first lexical fault of a text, or want of memory.
+#[derive(Clone, Copy, Debug, PartialEq, Eq, Error)]
+pub enum LexFault {
+    /// The place of the fault in bytes from 0, and its cause.
+    #[error("{why} at {at}")]
+    At { at: usize, why: LexWhy },
+    #[error("out of memory")]
+    Memory,
+}
+
+impl From<AllocError> for LexFault {
+    ghost from_gives = { λ _ e. e ≡ Memory };
+
+    fn from(_e: AllocError) -> LexFault {
+        LexFault::Memory
+    }
+}
+
+/// The kind of the token that a piece is; blanks and comments are none.
+fn kind_of(sort: Sort) -> Option<Kind>
+    ensures { result ≡ kind_of sort }
+{
+    match sort {
+        Sort::Blank | Sort::Comment => None,
+        Sort::Word => Some(Kind::Word),
+        Sort::Number => Some(Kind::Number),
+        Sort::Sign => Some(Kind::Sign),
+    }
+}
+
+/// Puts a token at the end, if there is one.
+fn push_token(
+    out: &mut Vec<Token>,
+    kind: Option<Kind>,
+    from: usize,
+    to: usize,
+) -> Result<(), AllocError>
+    ensures { OnOk result (out.new.items ≡ out.old.items ++ token_of kind from to) }
+{
+    if let Some(kind) = kind {
+        out.push(Token { kind, from, to })?;
+    }
+    Ok(())
+}
+
+/// The longest piece at the front, or why no text goes on so.
+fn next_piece(rest: &[u8]) -> Result<(Sort, usize), LexWhy>
+    requires { 0 < length rest.now }
+    ensures ok { IfOk result (λ p. IsLongest p.0 p.1 rest.now) }
+    ensures sound { IfOk result (λ p. IsSound p.0 (take p.1 rest.now)) }
+    ensures err { IfErr result (λ e. IsStuck rest.now e) }
+{
+    match longest_piece(rest) {
+        None => Err(LexWhy::BadByte),
+        Some((Sort::Number, len)) => match value_of(&rest[..len]) {
+            Some(_) => Ok((Sort::Number, len)),
+            None => Err(LexWhy::NumberTooLarge),
+        },
+        Some(other) => Ok(other),
+    }
+}
+
+/// The tokens of a text in order, with the end of the text as the last one.
+///
+/// Blanks, tabs, CR, LF and comments from `//` to the line's end part tokens. Each token is the longest piece at its
+/// place. The first place where none stands, or where a number is not one of 64 bits, is the fault.
+pub fn tokens(alloc: Global, text: &[u8]) -> Result<Vec<Token>, LexFault>
+    // The answer is the text's tokens, or its first fault, or want of memory.
+    ensures found { IfOk result (λ v. AreTokens v.items text.now) }
+    ensures fault { IfErr result (λ e. IsFaultOf text.now e) }
+
+    // Where the text has these tokens, or this fault, nothing else is answered but want of memory.
+    ensures only_tokens { (ts : List Token) → AreTokens ts text.now →
+        MatchResult result (λ v. v.items ≡ ts) (λ e. e ≡ Memory) }
+    ensures only_fault { (at : ℕ) (why : LexWhy) → StopsAt text.now at why →
+        MatchResult result (λ v. ⊥) (λ e. (e ≡ Memory) ⊎ (e ≡ At at why)) }
+
+    // Each token stands within the text and is a piece of its kind.
+    ensures spans { IfOk result (λ v. All (IsTokenIn text.now) v.items) }
+{
+    let mut out = Vec::new(alloc);
+    let mut at = 0;
+    while at < text.len() {
+        let (_, rest) = text.split_at(at);
+        let (sort, len) = match next_piece(rest) {
+            Ok(piece) => piece,
+            Err(why) => return Err(LexFault::At { at, why }),
+        };
+        push_token(&mut out, kind_of(sort), at, at + len)?;
+        at += len;
+    }
+    push_token(&mut out, Some(Kind::End), at, at)?;
+    Ok(out)
+}
+
+/// Each text has its tokens or a lexical fault, one list or one place and cause, and never both.
+pub fn lexed_once(text: &[u8])
+    ensures some { ((ts : List Token) × AreTokens ts text.now)
+        ⊎ ((at : ℕ) × (why : LexWhy) × StopsAt text.now at why) }
+    ensures one_list { (ts us : List Token) → AreTokens ts text.now → AreTokens us text.now → ts ≡ us }
+    ensures one_fault { (at to : ℕ) (why cause : LexWhy) →
+        StopsAt text.now at why → StopsAt text.now to cause → (at ≡ to) × (why ≡ cause) }
+    ensures not_both { (ts : List Token) (at : ℕ) (why : LexWhy) →
+        AreTokens ts text.now → StopsAt text.now at why → ⊥ }
+{}
+
+#[cfg(test)]
+mod tests {
+    use super::*;
+    use crate::number::number_of;
+
+    fn token(kind: Kind, from: usize, to: usize) -> Token {
+        Token { kind, from, to }
+    }
+
+    #[test]
+    fn cuts_texts(rt: HostRuntime) -> Result<(), LexFault> {
+        let one_line = [token(Kind::Word, 0, 1), token(Kind::End, 4, 4)];
+        let shown: [(&[u8], &[Token]); 6] = [
+            (b"", &[token(Kind::End, 0, 0)]),
+            (
+                b"x<=-5",
+                &[
+                    token(Kind::Word, 0, 1),
+                    token(Kind::Sign, 1, 3),
+                    token(Kind::Number, 3, 5),
+                    token(Kind::End, 5, 5),
+                ],
+            ),
+            // A comment ends with its line, or with the text.
+            (
+                b"// \xff\n_a9//",
+                &[token(Kind::Word, 5, 8), token(Kind::End, 10, 10)],
+            ),
+            (b"x//!", &one_line),
+            (b"x\t\r\n", &one_line),
+            (
+                b"1a-2->",
+                &[
+                    token(Kind::Number, 0, 1),
+                    token(Kind::Word, 1, 2),
+                    token(Kind::Number, 2, 4),
+                    token(Kind::Sign, 4, 6),
+                    token(Kind::End, 6, 6),
+                ],
+            ),
+        ];
+        for (text, want) in shown {
+            let found = tokens(rt.alloc(), text)?;
+            assert_eq!(rt; found.as_slice(), want);
+        }
+        Ok(())
+    }
+
+    #[test]
+    fn takes_whole_signs(rt: HostRuntime) -> Result<(), LexFault> {
+        let signs: [&[u8]; 21] = [
+            b"(", b")", b"{", b"}", b"<", b">", b"<=", b">=", b"=", b"!=", b",", b";", b":", b".",
+            b"->", b"||", b"|", b"&", b"~", b"@", b"*",
+        ];
+        for sign in signs {
+            let len = sign.len();
+            let found = tokens(rt.alloc(), sign)?;
+            let want = [token(Kind::Sign, 0, len), token(Kind::End, len, len)];
+            assert_eq!(rt; found.as_slice(), want.as_slice());
+        }
+        Ok(())
+    }
+
+    #[test]
+    fn finds_the_first_fault(rt: HostRuntime) {
+        let shown: [(&[u8], usize, LexWhy); 9] = [
+            (b"a ! b", 2, LexWhy::BadByte),
+            (b"a - 1", 2, LexWhy::BadByte),
+            (b"a / b", 2, LexWhy::BadByte),
+            (b"a-", 1, LexWhy::BadByte),
+            (b"<=\xc3\xa9", 2, LexWhy::BadByte),
+            (b"// a\n#", 5, LexWhy::BadByte),
+            (b"9223372036854775808 !", 0, LexWhy::NumberTooLarge),
+            (b"x,-9223372036854775809", 2, LexWhy::NumberTooLarge),
+            (
+                b"1 100000000000000000000000000000",
+                2,
+                LexWhy::NumberTooLarge,
+            ),
+        ];
+        for (text, at, why) in shown {
+            let fault = tokens(rt.alloc(), text).err();
+            assert_eq!(rt; fault, Some(LexFault::At { at, why }));
+        }
+    }
+
+    #[test]
+    fn reads_numbers(rt: HostRuntime) -> Result<(), LexFault> {
+        let shown: [(&[u8], i64); 5] = [
+            (b"9223372036854775807", i64::MAX),
+            (b"-9223372036854775808", i64::MIN),
+            (b"-0012", -12),
+            (b"00000000000000000000000007", 7),
+            (b"-0", 0),
+        ];
+        for (text, want) in shown {
+            for token in &tokens(rt.alloc(), text)? {
+                if let Kind::Number = token.kind {
+                    assert_eq!(rt; number_of(text, token), want);
+                }
+            }
+        }
+        Ok(())
+    }
+
+    #[test]
+    fn prints_faults(rt: HostRuntime) -> Result<(), LexFault> {
+        let fault = LexFault::At {
+            at: 3,
+            why: LexWhy::NumberTooLarge,
+        };
+        let shown = format!(in rt.alloc(); "{fault}; {}", LexFault::Memory)?;
+        assert_eq!(rt; shown.as_str(), "NumberTooLarge at 3; out of memory");
+        Ok(())
+    }
+}

@@ -1,0 +1,4 @@
+pub mod Sample
+mod Examples
+mod LiteralLoop
+mod SetConstants

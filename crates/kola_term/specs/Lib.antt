@@ -1,3 +1,5 @@
 pub mod Terms
+pub mod Literals
 pub mod Meaning
 pub mod Visits
+pub mod TermView

@@ -1,0 +1,167 @@
+//! Terms made of their parts: one function for each constructor that has a part.
+
+ghost use Rattle.std.specs.Prelude.{◌≡◌, IfOk};
+ghost use Rattle.kola_term.specs.Terms.{FComp, FPair, FTimes, FC, FIf, FIterate, FIter, FJoin, FNest, FUnnest, PAt, PAnd, POr, PNot, PInv, PCP, PEx, PFa};
+ghost use Rattle.kola_term.specs.TermView.{const_tree, fun_tree, pred_tree};
+
+use crate::constant::Const;
+use crate::term::{Fun, Pred};
+use kola_core::Memory;
+use std::alloc::Global;
+
+/// `(f o g)`.
+pub fn comp(alloc: Global, f: Fun, g: Fun) -> Result<Fun, Memory>
+    ensures { IfOk result (λ r. fun_tree r ≡ FComp (fun_tree f) (fun_tree g)) }
+{
+    let f = Box::new(alloc, f)?;
+    let g = Box::new(alloc, g)?;
+    Ok(Fun::Comp(f, g))
+}
+
+/// `<f, g>`.
+pub fn pair(alloc: Global, f: Fun, g: Fun) -> Result<Fun, Memory>
+    ensures { IfOk result (λ r. fun_tree r ≡ FPair (fun_tree f) (fun_tree g)) }
+{
+    let f = Box::new(alloc, f)?;
+    let g = Box::new(alloc, g)?;
+    Ok(Fun::Pair(f, g))
+}
+
+/// `(f * g)`.
+pub fn times(alloc: Global, f: Fun, g: Fun) -> Result<Fun, Memory>
+    ensures { IfOk result (λ r. fun_tree r ≡ FTimes (fun_tree f) (fun_tree g)) }
+{
+    let f = Box::new(alloc, f)?;
+    let g = Box::new(alloc, g)?;
+    Ok(Fun::Times(f, g))
+}
+
+/// `nest(f, g)`.
+pub fn nest(alloc: Global, f: Fun, g: Fun) -> Result<Fun, Memory>
+    ensures { IfOk result (λ r. fun_tree r ≡ FNest (fun_tree f) (fun_tree g)) }
+{
+    let f = Box::new(alloc, f)?;
+    let g = Box::new(alloc, g)?;
+    Ok(Fun::Nest(f, g))
+}
+
+/// `unnest(f, g)`.
+pub fn unnest(alloc: Global, f: Fun, g: Fun) -> Result<Fun, Memory>
+    ensures { IfOk result (λ r. fun_tree r ≡ FUnnest (fun_tree f) (fun_tree g)) }
+{
+    let f = Box::new(alloc, f)?;
+    let g = Box::new(alloc, g)?;
+    Ok(Fun::Unnest(f, g))
+}
+
+/// `iterate(p, f)`.
+pub fn iterate(alloc: Global, p: Pred, f: Fun) -> Result<Fun, Memory>
+    ensures { IfOk result (λ r. fun_tree r ≡ FIterate (pred_tree p) (fun_tree f)) }
+{
+    let p = Box::new(alloc, p)?;
+    let f = Box::new(alloc, f)?;
+    Ok(Fun::Iterate(p, f))
+}
+
+/// `iter(p, f)`.
+pub fn iter(alloc: Global, p: Pred, f: Fun) -> Result<Fun, Memory>
+    ensures { IfOk result (λ r. fun_tree r ≡ FIter (pred_tree p) (fun_tree f)) }
+{
+    let p = Box::new(alloc, p)?;
+    let f = Box::new(alloc, f)?;
+    Ok(Fun::Iter(p, f))
+}
+
+/// `join(p, f)`.
+pub fn join(alloc: Global, p: Pred, f: Fun) -> Result<Fun, Memory>
+    ensures { IfOk result (λ r. fun_tree r ≡ FJoin (pred_tree p) (fun_tree f)) }
+{
+    let p = Box::new(alloc, p)?;
+    let f = Box::new(alloc, f)?;
+    Ok(Fun::Join(p, f))
+}
+
+/// `if(p, f, g)`.
+pub fn choice(alloc: Global, p: Pred, f: Fun, g: Fun) -> Result<Fun, Memory>
+    ensures { IfOk result (λ r. fun_tree r ≡ FIf (pred_tree p) (fun_tree f) (fun_tree g)) }
+{
+    let p = Box::new(alloc, p)?;
+    let f = Box::new(alloc, f)?;
+    let g = Box::new(alloc, g)?;
+    Ok(Fun::If(p, f, g))
+}
+
+/// `C(f, c)`.
+pub fn partial(alloc: Global, f: Fun, c: Const) -> Result<Fun, Memory>
+    ensures { IfOk result (λ r. fun_tree r ≡ FC (fun_tree f) (const_tree c)) }
+{
+    let f = Box::new(alloc, f)?;
+    Ok(Fun::C(f, c))
+}
+
+/// `(p @ f)`.
+pub fn at(alloc: Global, p: Pred, f: Fun) -> Result<Pred, Memory>
+    ensures { IfOk result (λ r. pred_tree r ≡ PAt (pred_tree p) (fun_tree f)) }
+{
+    let p = Box::new(alloc, p)?;
+    let f = Box::new(alloc, f)?;
+    Ok(Pred::At(p, f))
+}
+
+/// `(p & q)`.
+pub fn and(alloc: Global, p: Pred, q: Pred) -> Result<Pred, Memory>
+    ensures { IfOk result (λ r. pred_tree r ≡ PAnd (pred_tree p) (pred_tree q)) }
+{
+    let p = Box::new(alloc, p)?;
+    let q = Box::new(alloc, q)?;
+    Ok(Pred::And(p, q))
+}
+
+/// `(p | q)`.
+pub fn or(alloc: Global, p: Pred, q: Pred) -> Result<Pred, Memory>
+    ensures { IfOk result (λ r. pred_tree r ≡ POr (pred_tree p) (pred_tree q)) }
+{
+    let p = Box::new(alloc, p)?;
+    let q = Box::new(alloc, q)?;
+    Ok(Pred::Or(p, q))
+}
+
+/// `~p`.
+pub fn not(alloc: Global, p: Pred) -> Result<Pred, Memory>
+    ensures { IfOk result (λ r. pred_tree r ≡ PNot (pred_tree p)) }
+{
+    let p = Box::new(alloc, p)?;
+    Ok(Pred::Not(p))
+}
+
+/// `inv(p)`.
+pub fn inverse(alloc: Global, p: Pred) -> Result<Pred, Memory>
+    ensures { IfOk result (λ r. pred_tree r ≡ PInv (pred_tree p)) }
+{
+    let p = Box::new(alloc, p)?;
+    Ok(Pred::Inv(p))
+}
+
+/// `CP(p, c)`.
+pub fn partial_pred(alloc: Global, p: Pred, c: Const) -> Result<Pred, Memory>
+    ensures { IfOk result (λ r. pred_tree r ≡ PCP (pred_tree p) (const_tree c)) }
+{
+    let p = Box::new(alloc, p)?;
+    Ok(Pred::CP(p, c))
+}
+
+/// `ex(p)`.
+pub fn some(alloc: Global, p: Pred) -> Result<Pred, Memory>
+    ensures { IfOk result (λ r. pred_tree r ≡ PEx (pred_tree p)) }
+{
+    let p = Box::new(alloc, p)?;
+    Ok(Pred::Ex(p))
+}
+
+/// `fa(p)`.
+pub fn each(alloc: Global, p: Pred) -> Result<Pred, Memory>
+    ensures { IfOk result (λ r. pred_tree r ≡ PFa (pred_tree p)) }
+{
+    let p = Box::new(alloc, p)?;
+    Ok(Pred::Fa(p))
+}

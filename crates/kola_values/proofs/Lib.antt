@@ -6,3 +6,4 @@ pub mod SameTypes
 pub mod Keeping
 pub mod Making
 pub mod Merging
+pub mod Texts

@@ -3,11 +3,11 @@ ghost use Rattle.std.specs.Prelude.{◌≡◌, ◌<◌, ◌++◌, map, codes, de
 ghost use Rattle.std.specs.Fmt.{digits, digit_glyph, signed_decimal};
 ghost use Rattle.std.specs.List.{flat_map};
 ghost use Rattle.kola_values.specs.Types.{of_type_fields};
-ghost use Rattle.kola_values.specs.Values.{of_items, of_fields};
+ghost use Rattle.kola_values.specs.Values.{VSet, of_items, of_fields};
 ghost use Rattle.kola_values.specs.Views.{type_tree, type_entry, value_tree, value_entry};
 ghost use Rattle.kola_values.specs.Spelling.{escaped, quoted, truth, value_spelling, members_spelling, further_members, fields_spelling, further_fields, type_spelling, field_types_spelling, further_field_types};
 
-use crate::{Ty, Value};
+use crate::{Set, Ty, Value};
 use itoa::Buffer;
 use kola_core::{Memory, Name};
 use std::alloc::Global;
@@ -164,6 +164,15 @@ fn push_members(out: &mut Vec<u8>, members: &[Value]) -> Result<(), Memory>
         push_value(out, member)?;
     }
     Ok(())
+}
+
+/// Adds the canonical text of a set.
+pub fn push_set(out: &mut Vec<u8>, set: &Set) -> Result<(), Memory>
+    ensures { OnOk result (out.new.items ≡ out.old.items ++ value_spelling (VSet (of_items set.now))) }
+{
+    push_bytes(out, b"{")?;
+    push_members(out, set.as_slice())?;
+    push_bytes(out, b"}")
 }
 
 #[cycle(push_value)]

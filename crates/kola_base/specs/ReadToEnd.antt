@@ -6,7 +6,7 @@ use Rattle.std.specs.declared.alloc.Global.{Global}
 use Rattle.kola_base.specs.declared.reading.ReadAllFault.{ReadAllFault}
 use Rattle.kola_base.specs.declared.reading.ReadAllFault.TheVariants.{Read, TooLong, Memory}
 
--- what the answer says of the bytes that were taken: all, with none left; or one more than the limit; or no more than it
+-- what the answer says of the bytes that were taken: all, or one more than the limit, or no more than it
 abbrev pub IsAnswer : ℕ → List ℕ → Option (List ℕ) → Result (Vec ℕ Global) ReadAllFault → Type 0
 IsAnswer limit taken after (Ok bytes) = (bytes.items ≡ taken) × (length taken ≤ limit) × IsAtEnd after
 IsAnswer limit taken after (Err TooLong) = length taken ≡ limit + 1
@@ -14,10 +14,11 @@ IsAnswer limit taken after (Err Read) = length taken ≤ limit
 IsAnswer limit taken after (Err Memory) = length taken ≤ limit
 
 -- the bytes that were taken from the front of what was left, where that is told
-pub record Taking (limit : ℕ) (before after : Option (List ℕ)) (result : Result (Vec ℕ Global) ReadAllFault) : Type 0 where
-  pub taken : List ℕ
-  pub front : before ≡ prepend_known taken after
-  pub answer : IsAnswer limit taken after result
+pub record Taking (limit : ℕ) (before after : Option (List ℕ)) (result : Result (Vec ℕ Global) ReadAllFault) : Type 0
+  where
+    pub taken : List ℕ
+    pub front : before ≡ prepend_known taken after
+    pub answer : IsAnswer limit taken after result
 
 -- what the answer says of all the bytes that were left
 abbrev pub AnswersTo : ℕ → List ℕ → Result (Vec ℕ Global) ReadAllFault → Type 0

@@ -40,6 +40,6 @@ pub record Store : Type 0 where
   pub piece : ℕ
   pub script : Script
 
--- how many bytes of a piece of this length a call takes: the least of the store's piece, that length and the room that is left
+-- how many bytes a call takes of so many that are offered: the least of the piece, these and the room that is left
 abbrev pub fitting : Store → ℕ → ℕ
 fitting s offered = min (min s.piece offered) (s.room - length s.written)

@@ -1,4 +1,4 @@
--- What a call does to the bytes that a source has left and to those that a sink took. Told bytes stay told, and untold ones untold.
+-- What a call does to the bytes that a source has left and to those that a sink took: told ones stay told, untold ones untold.
 use Rattle.std.specs.Prelude.{◌≡◌, ◌↔◌, ℕ, ◌<◌, ◌≤◌, List, [], length, take, IfSome}
 use Rattle.std.specs.Io.KnownBytes.{prepend_known, append_known}
 use Rattle.std.specs.declared.option.Option.{Option}

@@ -10,8 +10,8 @@ use kola_core::Memory;
 use std::alloc::Global;
 use std::marker::Model;
 
-/// A sink that keeps bytes in memory, at most a room, and takes at most a piece of them a call. Exactly the calls whose
-/// numbers, from 1, it was told fail, and those that find the room used up.
+/// A sink that keeps bytes in memory, up to a room, and takes at most a piece of them a call. Exactly the calls fail whose
+/// numbers, from 1, it was told, and those with bytes that find the room used up.
 #[derive(Debug, Drop)]
 pub struct MemSink {
     bytes: Vec<u8>,
@@ -40,7 +40,8 @@ impl MemSink {
         fails: Vec<u64>,
     ) -> Result<MemSink, Memory>
         requires { 1 ≤ piece }
-        ensures { IfOk result (λ sink. sink ≡ record { written = []; room = room; piece = piece; script = unplayed fails.items }) }
+        ensures { IfOk result (λ sink. sink
+            ≡ record { written = []; room = room; piece = piece; script = unplayed fails.items }) }
     {
         Ok(MemSink {
             bytes: Vec::with_capacity(alloc, room)?,
@@ -87,7 +88,7 @@ impl Sink for MemSink {
 }
 
 /// A sink that takes every piece whole and keeps nothing.
-#[derive(Clone, Copy, Debug)]
+#[derive(Clone, Copy, Debug, Default)]
 pub struct CountSink;
 
 impl CountSink {

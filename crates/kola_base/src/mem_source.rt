@@ -70,8 +70,8 @@ fn copy_front(piece: usize, from: &[u8], to: &mut [u8]) -> usize
     count
 }
 
-/// A source over bytes in memory that gives at most a piece of them a call. Exactly the calls whose numbers, from 1, it was
-/// told fail.
+/// A source over bytes in memory that gives at most a piece of them a call. Exactly the calls fail whose numbers, from 1,
+/// it was told.
 #[derive(Debug, Drop)]
 pub struct MemSource {
     supply: SteadySource,
@@ -90,7 +90,8 @@ impl MemSource {
     /// A source of these bytes, whose calls with the numbers in `fails` fail.
     pub fn over(bytes: Vec<u8>, piece: usize, fails: Vec<u64>) -> MemSource
         requires { 1 ≤ piece }
-        ensures { result ≡ record { supply = record { left = bytes.items; piece = piece }; script = unplayed fails.items } }
+        ensures supply { result.supply ≡ record { left = bytes.items; piece = piece } }
+        ensures script { result.script ≡ unplayed fails.items }
     {
         MemSource {
             supply: SteadySource::over(bytes, piece),

@@ -38,8 +38,8 @@ impl From<AllocError> for ReadAllFault {
 /// How many bytes are asked for in one read.
 const CHUNK: usize = 64 * 1024;
 
-/// The bytes of a source up to its end, of which there may be `limit`. It takes no more than one byte past the limit, and no
-/// byte again.
+/// The bytes of a source up to its end, where they are no more than `limit`. Otherwise it takes one byte past the limit.
+/// The first read that fails ends it.
 pub fn read_all<S: Source>(
     alloc: Global,
     source: &mut S,
@@ -69,8 +69,7 @@ pub fn read_all<S: Source>(
     Err(ReadAllFault::TooLong)
 }
 
-/// One read behind the first `filled` bytes, of at most one byte more than the limit in all. What stood behind them was room
-/// for a read.
+/// One read behind the first `filled` bytes, up to one byte past the limit. What stood behind them was room for a read.
 fn read_more<S: Source>(
     source: &mut S,
     bytes: &mut Vec<u8>,

@@ -53,8 +53,8 @@ impl<R: Read> Source for StdSource<R> {
     }
 }
 
-/// A sink over a writer of std, which counts the writes that failed. It tells no bytes. Each write is flushed, and one that
-/// takes no byte or cannot be flushed has failed.
+/// A sink over a writer of std, which counts the writes that failed. It tells no bytes. Each write is flushed, and one
+/// that takes no byte of a piece with any, or that cannot be flushed, has failed.
 #[derive(Debug, Drop)]
 pub struct StdSink<W> {
     output: W,
@@ -87,7 +87,8 @@ impl<W: Write> Sink for StdSink<W> {
         ensures ok { IfOk result (λ n. Writes None None piece.now n) }
         ensures cause { HasCause self.old.faults self.new.faults result }
         // The writer got the bytes, as far as it says what it got.
-        ensures bytes { IfOk result (λ n. Appends (W.contents self.old.inner) (W.contents self.new.inner) (take n piece.now)) }
+        ensures bytes { IfOk result (λ n.
+            Appends (W.contents self.old.inner) (W.contents self.new.inner) (take n piece.now)) }
     {
         if let Ok(count) = self.output.write(piece)
             && (count > 0 || piece.is_empty())

@@ -1,8 +1,11 @@
-//! What the clauses on sources and sinks leave open: that memory is found, and what std's readers and writers give and take.
+//! What the clauses on sources and sinks leave open: that memory is found, that a failure is not tried again, and a flush.
+ghost use Rattle.std.specs.Prelude.{◌<◌, IsErrOf, IsOk};
+
 use crate::{
     CountSink, MemSink, MemSource, ReadAllFault, Sink, Source, StdSink, StdSource, SteadySource,
     WriteFault, read_all, write_all,
 };
+use std::alloc::Global;
 use std::io;
 use std::io::{ErrorKind, Read, Write};
 use std::test::Fail;
@@ -29,13 +32,25 @@ fn each_failing_read_is_told(rt: HostRuntime) -> Result<(), Fail> {
     Ok(())
 }
 
+/// Over a source that never fails no failure is told.
+fn read_steadily(
+    alloc: Global,
+    source: &mut SteadySource,
+    limit: usize,
+) -> Result<Vec<u8>, ReadAllFault>
+    requires { limit < usize.MAX }
+    ensures { IsErrOf result ReadAllFault.Read → ⊥ }
+{
+    read_all(alloc, source, limit)
+}
+
 #[test]
 fn the_limit_is_exact(rt: HostRuntime) -> Result<(), Fail> {
     let alloc = rt.alloc();
     for (size, limit) in [(0, 0), (1, 0), (8, 7), (8, 8), (8, 9)] {
         let bytes = vec![in alloc; 7u8; size]?;
         let mut source = SteadySource::over(bytes, 3);
-        let read = read_all(alloc, &mut source, limit);
+        let read = read_steadily(alloc, &mut source, limit);
         if size > limit {
             assert_eq!(rt; read.err(), Some(ReadAllFault::TooLong));
         } else {
@@ -43,6 +58,13 @@ fn the_limit_is_exact(rt: HostRuntime) -> Result<(), Fail> {
         }
     }
     Ok(())
+}
+
+/// To a sink that never fails all is written.
+fn count(bytes: &[u8]) -> Result<(), WriteFault>
+    ensures { IsOk result }
+{
+    write_all(&mut CountSink::new(), bytes)
 }
 
 #[test]
@@ -63,7 +85,7 @@ fn each_failing_write_is_told(rt: HostRuntime) -> Result<(), Fail> {
         write_all(&mut full, REPORT),
         Err(WriteFault { written: 10 })
     );
-    assert_eq!(rt; write_all(&mut CountSink::new(), REPORT), Ok(()));
+    assert_eq!(rt; count(REPORT), Ok(()));
     Ok(())
 }
 

@@ -16,7 +16,8 @@ pub struct WriteFault {
 pub fn write_all<K: Sink>(sink: &mut K, bytes: &[u8]) -> Result<(), WriteFault>
     ensures cause { HasCause (K.faults sink.old) (K.faults sink.new) result }
     ensures ok { OnOk result (K.written sink.new ≡ append_known (K.written sink.old) bytes.now) }
-    ensures err { IfErr result (λ fault. K.written sink.new ≡ append_known (K.written sink.old) (take fault.written bytes.now)) }
+    ensures err { IfErr result (λ fault.
+        K.written sink.new ≡ append_known (K.written sink.old) (take fault.written bytes.now)) }
     ensures proper { IfErr result (λ fault. fault.written < length bytes.now) }
 {
     let mut written = 0;

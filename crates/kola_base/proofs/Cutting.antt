@@ -30,7 +30,7 @@ tokens_more at (p ∷ ps) s n =
     ∙ sym (append_assoc (token_of (kind_of p.0) at (at + p.1)) (tokens_of (at + p.1) ps) (token_of (kind_of s) (at + p.1 + total ps) (at + p.1 + total ps + n)))
     ∙ ap (λ k. (token_of (kind_of p.0) at (at + p.1) ++ tokens_of (at + p.1) ps) ++ token_of (kind_of s) k (k + n)) (omega arith)
 
-cuts_length : (ps : List (Sort × ℕ)) (text rest : List ℕ) → Cuts ps text rest → length text ≡ total ps + length rest
+pub cuts_length : (ps : List (Sort × ℕ)) (text rest : List ℕ) → Cuts ps text rest → length text ≡ total ps + length rest
 cuts_length [] text rest h = ap length h ∙ omega arith
 cuts_length (p ∷ ps) text rest h =
     let n = cuts_length ps (drop p.1 text) rest h.2 in

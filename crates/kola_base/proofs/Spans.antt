@@ -1,5 +1,5 @@
--- Each token of a text stands within it and is a piece of its kind.
-use Rattle.std.proofs.Common.{◌≡◌, ℕ, ◌+◌, ◌-◌, ◌<◌, ◌≤◌, List, [], ◌∷◌, length, take, drop, sym, ap, subst, arith}
+-- Each token of a text stands within it, behind the one before, and is a piece of its kind.
+use Rattle.std.proofs.Common.{◌≡◌, ℕ, ◌+◌, ◌-◌, ◌<◌, ◌≤◌, List, [], ◌∷◌, ◌++◌, length, take, drop, refl, sym, ap, subst, arith, append_assoc}
 use Rattle.std.specs.Prelude.{slice_range}
 use Rattle.std.specs.List.{All, Contains}
 use Rattle.std.proofs.lemmas.List.{length-drop, drop-drop}
@@ -10,8 +10,9 @@ use Rattle.kola_base.specs.declared.lex.Kind.{Kind}
 use Rattle.kola_base.specs.declared.lex.Kind.TheVariants as kinds
 use Rattle.kola_base.specs.declared.lex.Token.{Token}
 use Rattle.kola_base.specs.Pieces.{IsLongest}
-use Rattle.kola_base.specs.Tokens.{IsSound, Cuts, kind_of, token_of, tokens_of, end_at, AreTokens, IsOfKind, IsTokenIn}
+use Rattle.kola_base.specs.Tokens.{IsSound, Cuts, kind_of, token_of, tokens_of, end_at, AreTokens, IsOfKind, IsTokenIn, InOrder}
 use Rattle.kola_base.proofs.OneCut.{has_byte}
+use Rattle.kola_base.proofs.Cutting.{total, cuts_length}
 
 -- the n bytes at a place, which a piece has
 module _ (text : List ℕ) (at n : ℕ) where
@@ -49,3 +50,20 @@ all_in ts text a = subst (All (IsTokenIn text)) (sym a.are) (All-append (IsToken
 -- what a caller with a token of a text knows of it
 pub one_of_tokens : (ts : List Token) (text : List ℕ) (t : Token) → AreTokens ts text → Contains ts t → IsTokenIn text t
 one_of_tokens ts text t a c = subst (IsTokenIn text) c.2 (all_in ts text a c.0 t c.1)
+
+-- ---- the order
+
+order_next : (s : Sort) (m at n : ℕ) (ts : List Token) → m ≤ at → ((k : ℕ) → k ≤ at + n → InOrder k ts) → InOrder m (token_of (kind_of s) at (at + n) ++ ts)
+order_next sorts.Blank m at n ts l go = go m (omega (arith, l))
+order_next sorts.Comment m at n ts l go = go m (omega (arith, l))
+order_next sorts.Word m at n ts l go = (l, go (at + n) (omega arith))
+order_next sorts.Number m at n ts l go = (l, go (at + n) (omega arith))
+order_next sorts.Sign m at n ts l go = (l, go (at + n) (omega arith))
+
+order_of : (ps : List (Sort × ℕ)) (m at end : ℕ) → m ≤ at → at + total ps ≡ end → InOrder m (tokens_of at ps ++ end_at end ∷ [])
+order_of [] m at end l e = (omega (arith, l, e), refl)
+order_of (p ∷ ps) m at end l e = subst (InOrder m) (sym (append_assoc (token_of (kind_of p.0) at (at + p.1)) (tokens_of (at + p.1) ps) (end_at end ∷ [])))
+    (order_next p.0 m at p.1 (tokens_of (at + p.1) ps ++ end_at end ∷ []) l (λ k h. order_of ps k (at + p.1) end h (omega (arith, e))))
+
+pub in_order : (ts : List Token) (text : List ℕ) → AreTokens ts text → InOrder 0 ts
+in_order ts text a = subst (InOrder 0) (sym a.are) (order_of a.pieces 0 0 (length text) (omega arith) (let n = cuts_length a.pieces text [] a.all in omega (arith, n)))

@@ -1,4 +1,4 @@
--- The pieces that a text is cut into: each byte has a class, each sort of piece is a pattern of classes, and at each place the longest piece is taken.
+-- The pieces that a text is cut into: each byte has a class, each sort of piece is a pattern of classes, and at each place the longest piece is taken (longest match, or maximal munch).
 use Rattle.std.specs.Prelude.{◌≡◌, ℕ, ◌<◌, ◌≤◌, List, [], ◌∷◌, length, take, map, Bool, true, false, nat_le, ◌==◌, ◌&&◌, ◌||◌, if◌then◌else◌, codes}
 use Rattle.std.specs.List.{list_all, list_any}
 use Rattle.kola_base.specs.declared.class.Class.{Class}

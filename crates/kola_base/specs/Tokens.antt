@@ -92,3 +92,15 @@ pub record IsTokenIn (text : List ℕ) (t : Token) : Type 0 where
   pub ordered : t.from ≤ t.to
   pub within : t.to ≤ length text
   pub is : IsOfKind t.kind (bytes_of text t)
+
+-- ---- the tokens of a text, one behind another
+
+-- behind the end nothing stands
+abbrev pub Behind : Kind → List Token → Type 0 → Type 0
+Behind kinds.End ts next = ts ≡ []
+Behind _ ts next = next
+
+-- the tokens stand in order from a place on, and the end comes last and only there
+abbrev pub InOrder : ℕ → List Token → Type 0
+InOrder at [] = ⊥
+InOrder at (t ∷ ts) = (at ≤ t.from) × Behind t.kind ts (InOrder t.to ts)

@@ -6,7 +6,7 @@ ghost use Rattle.kola_base.specs.declared.lex.LexFault.TheVariants.{At, Memory};
 ghost use Rattle.kola_base.specs.declared.lex.LexWhy.{LexWhy};
 ghost use Rattle.kola_base.specs.declared.lex.Token.{Token};
 ghost use Rattle.kola_base.specs.Pieces.{IsLongest};
-ghost use Rattle.kola_base.specs.Tokens.{kind_of, token_of, AreTokens, IsFaultOf, IsSound, IsStuck, IsTokenIn, StopsAt};
+ghost use Rattle.kola_base.specs.Tokens.{kind_of, token_of, AreTokens, InOrder, IsFaultOf, IsSound, IsStuck, IsTokenIn, StopsAt};
 
 use crate::number::value_of;
 use crate::scan::{Sort, longest_piece};
@@ -135,6 +135,9 @@ pub fn tokens(alloc: Global, text: &[u8]) -> Result<Vec<Token>, LexFault>
 
     // Each token stands within the text and is a piece of its kind.
     ensures spans { IfOk result (λ v. All (IsTokenIn text.now) v.items) }
+
+    // They stand in order, and the end comes last and only there.
+    ensures order { IfOk result (λ v. InOrder 0 v.items) }
 {
     let mut out = Vec::new(alloc);
     let mut at = 0;

@@ -22,7 +22,9 @@ pub fn value_of(number: &[u8]) -> Option<i64>
     }
 }
 
-/// The integer that a number token of the text writes.
+/// The integer that a number token of the text writes: decimal digits, behind a `-` where it is negative.
+///
+/// Each token that `tokens` answers for the text stands in it as the second condition says. No memory is taken.
 pub fn number_of(text: &[u8], token: &Token) -> i64
     requires number { token.now.kind ≡ kinds.Number }
     requires in_text { IsTokenIn text.now token.now }

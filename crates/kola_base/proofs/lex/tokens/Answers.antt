@@ -3,7 +3,7 @@ use Rattle.kola_base.specs.declared.lex.LexFault.TheVariants.{At}
 use Rattle.kola_base.specs.Tokens.{AreTokens, StopsAt}
 use Rattle.kola_base.proofs.Cutting.{cut_more, cut_all, cut_stops}
 use Rattle.kola_base.proofs.OneCut.{one_list, one_fault, not_both}
-use Rattle.kola_base.proofs.Spans.{all_in}
+use Rattle.kola_base.proofs.Spans.{all_in, in_order}
 use Rattle.kola_base.proofs.lex.tokens.Goals as goal
 use Rattle.kola_base.proofs.lex.tokens.Goals.{In_ok-push_token-2, After-drop-out}
 
@@ -23,6 +23,9 @@ returns-clause-only_fault c = λ at why f. not_both c.push_token-2.new.out.items
 
 pub returns-clause-spans : goal.returns-clause-spans
 returns-clause-spans c = all_in c.push_token-2.new.out.items c.args.text.now (are_tokens c)
+
+pub returns-clause-order : goal.returns-clause-order
+returns-clause-order c = in_order c.push_token-2.new.out.items c.args.text.now (are_tokens c)
 
 -- ---- where nothing goes on, this is the fault
 

@@ -1,7 +1,7 @@
 -- What is found after all lines of a job, and which line is refused, as Layout.antt says it.
 use Rattle.std.proofs.Common.{◌≡◌, ℕ, zero, suc, ◌+◌, ◌<◌, ◌≤◌, Bool, true, false, cond, ltb, List, [], ◌∷◌, Option, Some, None, Result, Ok, Err, IsOk, length, drop, refl, sym, ap, ◌∙◌, subst, arith, ◌⊎◌, inl, inr, ⊎_elim, ◌↔◌}
 use Rattle.std.specs.List.{slice_get}
-use Rattle.std.proofs.lemmas.Bool.{cases_Bool, cases_order, cases_lt, ltb-true, ltb-false, lt-ltb, le-ltb}
+use Rattle.std.proofs.lemmas.Bool.{cases_order, ltb-true, ltb-false}
 use Rattle.kola_top.proofs.WalkLaws.{lines-put_opened}
 use Rattle.kola_top.specs.declared.section.Section.{Section}
 use Rattle.kola_top.specs.declared.section.Section.TheVariants.{Schema, Database, Rules, Query}
@@ -15,7 +15,7 @@ use Rattle.kola_top.specs.declared.layout.LayoutFault.{LayoutFault}
 use Rattle.kola_top.specs.declared.layout.LayoutWhy.{LayoutWhy}
 use Rattle.kola_top.specs.declared.layout.LayoutWhy.TheVariants.{TextBefore, UnknownSection, SectionOutOfOrder}
 use Rattle.kola_top.specs.Layout.{Line, kind, kinds, order, place_of, is_header, next_header, IsPlaceOf, IsFaulty, IsFaultless, IsFirstFault, AreSections, lines_of}
-use Rattle.kola_top.specs.Scan.{put, put_opened, closed, least_order, refused, read_text, read_header, read_kind, counted, read, go_on, walk, start}
+use Rattle.kola_top.specs.Scan.{put, put_opened, closed, least_order, refused, read_text, read_kind, counted, read, go_on, walk, start}
 
 -- ---- sections in their order
 

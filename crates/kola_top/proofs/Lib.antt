@@ -1,3 +1,5 @@
 pub mod LineLaws
 pub mod WalkLaws
 pub mod FoundLaws
+mod RowLaws
+mod Examples

@@ -1,9 +1,9 @@
 -- How the first line of a text is cut from the rest.
-use Rattle.std.proofs.Common.{◌≡◌, ℕ, suc, ◌+◌, ◌-◌, ◌<◌, ◌≤◌, Bool, true, false, cond, eqb, List, [], ◌∷◌, Option, Some, None, length, take, drop, refl, sym, ap, ◌∙◌, add_assoc, arith}
+use Rattle.std.proofs.Common.{◌≡◌, ℕ, suc, ◌+◌, ◌-◌, ◌<◌, ◌≤◌, Bool, true, false, cond, eqb, List, [], ◌∷◌, Some, None, length, take, drop, refl, sym, ap, ◌∙◌, add_assoc, arith}
 use Rattle.std.specs.List.{slice_split, onto_first, position, position_or_len}
 use Rattle.std.specs.Str.Lines.{strip_carriage_return}
 use Rattle.std.proofs.lemmas.Bool.{ltb-true, ltb-false, ne_eqb}
-use Rattle.std.proofs.lemmas.List.{length-take, length-take-le, length-drop, drop-drop, drop_all, take_rest}
+use Rattle.std.proofs.lemmas.List.{length-take-le, length-drop, drop-drop, drop_all, take_rest}
 use Rattle.std.proofs.lemmas.List.Sums.{fails_before_first, suffix_len-take_yes, suffix_len-take_no}
 use Rattle.std.proofs.lemmas.List.Splits.{slice_split_first, slice_split_none}
 use Rattle.kola_top.specs.Layout.{Line, lines_at, lines_from}

@@ -1,7 +1,5 @@
 -- What a walk over the lines of a job finds, and which line it refuses.
-use Rattle.std.proofs.Common.{◌≡◌, ℕ, zero, suc, ◌+◌, ◌<◌, ◌≤◌, Bool, true, false, cond, ltb, List, [], ◌∷◌, Option, Some, None, Result, Ok, Err, IfOk, length, drop, refl, sym, ap, ◌∙◌, subst, arith, ◌⊎◌, inl, inr, ⊎_elim}
-use Rattle.std.specs.List.{slice_get}
-use Rattle.std.proofs.lemmas.Bool.{cases_Bool, cases_order, ltb-true, ltb-false}
+use Rattle.std.proofs.Common.{◌≡◌, ℕ, ◌+◌, Bool, true, false, cond, List, [], ◌∷◌, Option, Some, None, Result, Ok, Err, IfOk, refl, sym, subst}
 use Rattle.kola_top.specs.declared.section.Section.{Section}
 use Rattle.kola_top.specs.declared.section.Section.TheVariants.{Schema, Database, Rules, Query}
 use Rattle.kola_top.specs.declared.section.Span.{Span}
@@ -11,10 +9,9 @@ use Rattle.kola_top.specs.declared.lines.Kind.TheVariants.{Blank, Text, Unknown,
 use Rattle.kola_top.specs.declared.layout.Opened.{Opened}
 use Rattle.kola_top.specs.declared.layout.Progress.{Progress}
 use Rattle.kola_top.specs.declared.layout.LayoutFault.{LayoutFault}
-use Rattle.kola_top.specs.declared.layout.LayoutWhy.{LayoutWhy}
-use Rattle.kola_top.specs.declared.layout.LayoutWhy.TheVariants.{TextBefore, UnknownSection, SectionOutOfOrder}
-use Rattle.kola_top.specs.Layout.{Line, kind, kinds, order, place_of, is_header, next_header, IsPlaceOf, IsFaulty, IsFaultless, IsFirstFault}
-use Rattle.kola_top.specs.Scan.{put, put_opened, closed, least_order, refused, read_text, read_header, read_kind, counted, read, go_on, walk, start}
+use Rattle.kola_top.specs.declared.layout.LayoutWhy.TheVariants.{SectionOutOfOrder}
+use Rattle.kola_top.specs.Layout.{Line, kind}
+use Rattle.kola_top.specs.Scan.{put, put_opened, closed, refused, read_text, read_kind, counted, read, walk}
 
 -- ---- the turns of the loop
 

@@ -1,5 +1,5 @@
 -- The layout of a job: its lines, what each line is, which line is faulty, and where the text of each section lies.
-use Rattle.std.specs.Prelude.{◌≡◌, ℕ, suc, ◌+◌, ◌-◌, ◌<◌, ◌≤◌, ◌==◌, nat_eq, Bool, true, false, cond, ◌||◌, List, [], ◌∷◌, length, take, drop, Option, Some, None, Result, Ok, Err, map, codes, if◌then◌else◌}
+use Rattle.std.specs.Prelude.{◌≡◌, ℕ, suc, ◌+◌, ◌-◌, ◌<◌, ◌≤◌, ◌==◌, nat_eq, Bool, true, false, ◌||◌, List, [], ◌∷◌, length, take, drop, Option, Some, None, map, codes, if◌then◌else◌}
 use Rattle.std.specs.List.{slice_get, slice_split, list_all, suffix_len, starts_with}
 use Rattle.std.specs.Str.{bytes_eq}
 use Rattle.std.specs.Str.Lines.{strip_carriage_return}
@@ -32,6 +32,11 @@ lines_from at text = lines_at at (slice_split (λ b. b == 10) text)
 -- the lines of a job
 abbrev pub lines_of : List ℕ → List Line
 lines_of job = lines_from 0 job
+
+-- the lines lie one behind another, from one place up to another
+abbrev pub AreInARow : ℕ → ℕ → List Line → Type 0
+AreInARow from to [] = from ≡ to
+AreInARow from to (l ∷ ls) = (l.from ≡ from) × (l.from < l.next) × AreInARow l.next to ls
 
 -- a space or a tab
 abbrev pub is_blank : ℕ → Bool

@@ -1,5 +1,5 @@
 -- How a job is gone through, one line after another. What comes of it is said in Layout.antt, of all lines at once.
-use Rattle.std.specs.Prelude.{ℕ, ◌+◌, nat_lt, Bool, List, [], ◌∷◌, Option, Some, None, Result, Ok, Err, if◌then◌else◌}
+use Rattle.std.specs.Prelude.{ℕ, ◌+◌, nat_lt, List, [], ◌∷◌, Option, Some, None, Result, Ok, Err, if◌then◌else◌}
 use Rattle.kola_top.specs.declared.section.Section.{Section}
 use Rattle.kola_top.specs.declared.section.Section.TheVariants.{Schema, Database, Rules, Query}
 use Rattle.kola_top.specs.declared.lines.Kind.{Kind}

@@ -140,3 +140,51 @@ fn scan(job: &[u8]) -> Result<Sections, LayoutFault>
     }
     Ok(progress.closed(job.len()))
 }
+
+#[cfg(test)]
+mod tests {
+    use super::*;
+
+    fn query(from: usize, to: usize, lines: u64) -> Result<Sections, LayoutFault> {
+        Ok(Sections {
+            schema: None,
+            database: None,
+            rules: None,
+            query: Some(Span { from, to }),
+            lines,
+        })
+    }
+
+    fn fault(line: u64, why: LayoutWhy) -> Result<Sections, LayoutFault> {
+        Err(LayoutFault { line, why })
+    }
+
+    #[test]
+    fn finds_sections(rt: HostRuntime) {
+        let none = Ok(Progress::START.found);
+        let cases = [
+            ("", none),
+            ("%% query", query(8, 8, 1)),
+            ("%% query\nselect\n", query(9, 16, 2)),
+            (" \t\n\r\n%% query \t\r\nx\r\n\n", query(17, 21, 5)),
+            ("x", fault(1, LayoutWhy::TextBefore)),
+            ("\n %% query\n", fault(2, LayoutWhy::TextBefore)),
+            ("\r", fault(1, LayoutWhy::TextBefore)),
+            ("%% query\r", fault(1, LayoutWhy::UnknownSection)),
+            ("%% query\r\r\n", fault(1, LayoutWhy::UnknownSection)),
+            ("%%query\n", fault(1, LayoutWhy::UnknownSection)),
+            ("%% Query\n", fault(1, LayoutWhy::UnknownSection)),
+            (
+                "\n%% schema\n%% query\n",
+                fault(2, LayoutWhy::UnknownSection),
+            ),
+            (
+                "%% query\nx\n%% query\n%%\n",
+                fault(3, LayoutWhy::SectionOutOfOrder),
+            ),
+        ];
+        for (job, want) in cases {
+            assert_eq!(rt; sections(job.as_bytes()), want, "at {job:?}");
+        }
+    }
+}

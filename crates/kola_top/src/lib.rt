@@ -1,9 +1,11 @@
 //! The top call: a job in, a report out.
 #![tactic(auto)]
 
+mod laws;
 mod layout;
 mod lines;
 mod section;
 
+pub use laws::lines_make_up_the_job;
 pub use layout::{LayoutFault, LayoutWhy, sections};
 pub use section::{Sections, Span};

@@ -1,7 +1,5 @@
-use Rattle.std.proofs.Common.{◌≡◌, ◌+◌, Ok, Err, length, drop, sym, ◌∙◌, arith, refl}
-use Rattle.std.proofs.lemmas.List.{drop_all}
+use Rattle.std.proofs.Common.{sym, ◌∙◌, arith}
 use Rattle.std.proofs.lemmas.Result.{err_from_is_err_and}
-use Rattle.kola_top.specs.Layout.{lines_from}
 use Rattle.kola_top.proofs.LineLaws.{lines_from-past}
 use Rattle.kola_top.proofs.WalkLaws.{walk-goes_on, walk-stops, walk-nil, read-counts}
 use Rattle.kola_top.proofs.layout.scan.Goals as goal

@@ -5,7 +5,10 @@ mod laws;
 mod layout;
 mod lines;
 mod section;
+mod status;
+mod words;
 
 pub use laws::lines_make_up_the_job;
 pub use layout::{LayoutFault, LayoutWhy, sections};
 pub use section::{Sections, Span};
+pub use status::Status;

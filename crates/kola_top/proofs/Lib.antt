@@ -3,6 +3,7 @@ pub mod WalkLaws
 pub mod FoundLaws
 mod RowLaws
 mod FormLaws
+pub mod FormReads
 mod AnswerLaws
 mod Examples
 mod QueryExamples

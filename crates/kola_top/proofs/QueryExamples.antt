@@ -10,7 +10,7 @@ use Rattle.kola_top.specs.declared.layout.LayoutWhy.TheVariants.{UnknownSection}
 use Rattle.kola_top.specs.declared.words.Action.TheVariants.{Run}
 use Rattle.kola_top.specs.Words.{action_of}
 use Rattle.kola_top.specs.Lexemes.{LWord, LNumber, LSign}
-use Rattle.kola_top.specs.Names.{is_name}
+use Rattle.kola_top.specs.Names.{is_name, is_among}
 use Rattle.kola_top.specs.SelectForm.{SelectForm, spelled}
 use Rattle.kola_top.specs.SelectMeaning.{value_of_form, translation, visits_of_form}
 use Rattle.kola_top.specs.FaultLines.{layout_fault_line, missing_line, not_built_line}
@@ -35,7 +35,7 @@ spells_one : spelled one_number ≡ map LWord (codes "select" ∷ codes "distinc
 spells_one = refl
 
 names : map is_name (codes "x" ∷ codes "_1" ∷ codes "selected" ∷ codes "In" ∷ codes "TRUE" ∷ codes "count" ∷ []) ≡ true ∷ true ∷ true ∷ false ∷ false ∷ false ∷ []
-unfolding is_name
+unfolding is_name is_among
 names = refl
 
 value_below : value_of_form below_three ≡ VSet (of_items (VInt (pos 1) ∷ VInt (pos 2) ∷ []))

@@ -11,3 +11,5 @@ pub mod Words
 pub mod FaultLines
 pub mod Spelling
 pub mod Answer
+pub mod FormReader
+pub mod FormViews

@@ -34,3 +34,8 @@ pub record IsForm (f : SelectForm) : Type 0 where
 pub record Says (lexemes : List Lexeme) (f : SelectForm) : Type 0 where
   pub is : IsForm f
   pub spells : lexemes ≡ spelled f
+
+-- the query of the form that the lexemes say, if they say one
+abbrev pub IsReading : List Lexeme → Option SelectForm → Type 0
+IsReading lexemes (Some f) = Says lexemes f
+IsReading lexemes None = (f : SelectForm) → Says lexemes f → ⊥

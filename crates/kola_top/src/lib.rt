@@ -1,6 +1,7 @@
 //! The top call: a job in, a report out.
 #![tactic(auto)]
 
+mod form;
 mod laws;
 mod layout;
 mod lines;

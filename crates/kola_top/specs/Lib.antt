@@ -13,3 +13,4 @@ pub mod Spelling
 pub mod Answer
 pub mod FormReader
 pub mod FormViews
+pub mod ReportViews

@@ -5,6 +5,7 @@ mod form;
 mod laws;
 mod layout;
 mod lines;
+mod output;
 mod section;
 mod status;
 mod words;

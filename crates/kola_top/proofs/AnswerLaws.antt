@@ -1,12 +1,10 @@
 -- The words and a job have at most one answer.
-use Rattle.std.proofs.Common.{◌≡◌, ℕ, ◌<◌, ◌≤◌, List, Option, Some, None, refl, sym, ap, ◌∙◌, subst, arith}
-use Rattle.kola_top.specs.declared.section.Span.{Span}
+use Rattle.std.proofs.Common.{◌≡◌, ℕ, List, refl, ap, subst, arith}
 use Rattle.kola_top.specs.declared.section.Sections.{Sections}
 use Rattle.kola_top.specs.declared.words.Action.{Action}
 use Rattle.kola_top.specs.declared.words.Action.TheVariants.{Run}
 use Rattle.kola_top.specs.declared.status.Status.{Status}
 use Rattle.kola_top.specs.Lexemes.{Lexeme}
-use Rattle.kola_top.specs.Layout.{AreSections, IsFirstFault, kinds, lines_of}
 use Rattle.kola_top.specs.SelectForm.{SelectForm, Says}
 use Rattle.kola_top.specs.FaultLines.{layout_fault_line}
 use Rattle.kola_top.specs.Report.{report_text}

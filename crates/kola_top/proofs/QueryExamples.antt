@@ -1,11 +1,11 @@
 -- Queries of the one form with their lexemes, values and reports, computed.
-use Rattle.std.proofs.Common.{◌≡◌, ℕ, true, false, List, [], ◌∷◌, ◌++◌, Some, None, Ok, refl}
-use Rattle.std.specs.Prelude.{ℤ, pos, negsuc, codes, map}
+use Rattle.std.proofs.Common.{◌≡◌, true, false, [], ◌∷◌, ◌++◌, Some, None, refl}
+use Rattle.std.specs.Prelude.{pos, negsuc, codes, map}
 use Rattle.std.specs.Fmt.{digits}
 use Rattle.std.specs.Str.Lines.{lines}
 use Rattle.kola_values.specs.Values.{VInt, VSet, of_items}
 use Rattle.kola_values.specs.Sets.{set_of}
-use Rattle.kola_term.specs.Terms.{CInt, CSet, FId, FSnd, FComp, FPair, FK, FIter, PLt, PAt, PKP}
+use Rattle.kola_term.specs.Terms.{CInt, CSet, FId, FSnd, FComp, FPair, FK, FIter, PLt, PAt}
 use Rattle.kola_top.specs.declared.layout.LayoutWhy.TheVariants.{UnknownSection}
 use Rattle.kola_top.specs.declared.words.Action.TheVariants.{Run}
 use Rattle.kola_top.specs.Words.{action_of}

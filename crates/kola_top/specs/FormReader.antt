@@ -1,5 +1,5 @@
 -- How a query of the one form is read off its lexemes, from left to right. What comes of it is said in SelectForm.antt.
-use Rattle.std.specs.Prelude.{◌≡◌, ℕ, ℤ, Bool, List, [], ◌∷◌, ◌++◌, Option, Some, None, codes, if◌then◌else◌}
+use Rattle.std.specs.Prelude.{◌≡◌, ℕ, ℤ, List, [], ◌∷◌, ◌++◌, Option, Some, None, codes, if◌then◌else◌}
 use Rattle.std.specs.Option.{option_and_then}
 use Rattle.std.specs.Str.{bytes_eq}
 use Rattle.kola_top.specs.Lexemes.{Lexeme, LWord, LNumber, LSign}

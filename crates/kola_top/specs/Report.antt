@@ -1,5 +1,5 @@
 -- What `run` writes: nine lines, each a name, a colon, a blank and what it says.
-use Rattle.std.specs.Prelude.{ℕ, Bool, true, false, List, [], ◌∷◌, ◌++◌, codes}
+use Rattle.std.specs.Prelude.{ℕ, Bool, true, false, List, ◌++◌, codes}
 use Rattle.std.specs.Fmt.{decimal}
 
 pub record Report : Type 0 where

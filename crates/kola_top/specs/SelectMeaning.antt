@@ -1,5 +1,5 @@
 -- What a query of the one form means, and the term that stands for it.
-use Rattle.std.specs.Prelude.{ℕ, ℤ, Bool, true, List, [], map, filter, int_lt, Option, Some, None}
+use Rattle.std.specs.Prelude.{ℕ, ℤ, true, List, [], map, filter, int_lt, Option, Some, None}
 use Rattle.kola_values.specs.Values.{ValueTree, VUnit, VInt}
 use Rattle.kola_values.specs.Sets.{canon, set_of}
 use Rattle.kola_term.specs.Terms.{CInt, CSet, FunTree, FId, FSnd, FComp, FPair, FK, FIter, PredTree, PLt, PAt, PKP}

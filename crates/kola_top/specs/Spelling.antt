@@ -1,5 +1,5 @@
 -- The canonical text of an integer, of a set of integers, and of the terms over them.
-use Rattle.std.specs.Prelude.{ℕ, ℤ, Bool, true, false, List, [], ◌∷◌, ◌++◌, codes}
+use Rattle.std.specs.Prelude.{ℕ, Bool, true, false, List, [], ◌∷◌, ◌++◌, codes}
 use Rattle.std.specs.Fmt.{signed_decimal}
 use Rattle.kola_values.specs.Values.{ValueTree, VInt, VSet, items, of_items}
 use Rattle.kola_term.specs.Terms.{ConstTree, CInt, CSet, FunTree, FId, FSnd, FComp, FPair, FK, FIter, PredTree, PLt, PAt, PKP}

@@ -1,8 +1,7 @@
-use Rattle.std.proofs.Common.{◌≡◌, ◌++◌, ◌∷◌, [], sym, ◌∙◌, ap, refl, rules, arith}
+use Rattle.std.proofs.Common.{sym, ◌∙◌, rules}
 use Rattle.std.proofs.lemmas.Int.{to_z-of_z}
 use mir.Val.{SFits}
 use mir.Syntax.{w64}
-use Rattle.kola_top.specs.FormReader.{more_numbers, closed_numbers}
 use Rattle.kola_top.specs.FormViews.{lexemes_view}
 use Rattle.kola_top.proofs.FormReads.{more_numbers-next, more_numbers-last, closed_at, unclosed_at}
 use Rattle.kola_top.proofs.form.numbers_of.Goals as goal

@@ -5,5 +5,6 @@ mod RowLaws
 mod FormLaws
 pub mod FormReads
 mod AnswerLaws
+mod AnswerExamples
 mod Examples
 mod QueryExamples

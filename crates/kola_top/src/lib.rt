@@ -10,7 +10,7 @@ mod section;
 mod status;
 mod words;
 
-pub use laws::lines_make_up_the_job;
+pub use laws::{lexemes_say_one_form, lines_make_up_the_job};
 pub use layout::{LayoutFault, LayoutWhy, sections};
 pub use section::{Sections, Span};
 pub use status::Status;

@@ -27,10 +27,9 @@ impl Section {
 pub fn section_of(header: &[u8]) -> Option<Section>
     ensures { result ≡ section_of header.now }
 {
-    if header == b"%% query".as_slice() {
-        Some(Section::Query)
-    } else {
-        None
+    match header {
+        _ if header == b"%% query".as_slice() => Some(Section::Query),
+        _ => None,
     }
 }
 

@@ -1,2 +1,16 @@
 //! The top call: a job in, a report out.
 #![tactic(auto)]
+
+mod form;
+mod laws;
+mod layout;
+mod lines;
+mod output;
+mod section;
+mod status;
+mod words;
+
+pub use laws::{lexemes_say_one_form, lines_make_up_the_job};
+pub use layout::{LayoutFault, LayoutWhy, sections};
+pub use section::{Sections, Span};
+pub use status::Status;

@@ -1,0 +1,10 @@
+pub mod LineLaws
+pub mod WalkLaws
+pub mod FoundLaws
+mod RowLaws
+mod FormLaws
+pub mod FormReads
+mod AnswerLaws
+mod AnswerExamples
+mod Examples
+mod QueryExamples

@@ -1,0 +1,62 @@
+-- The answer to the words and a job: its status and the bytes that are written. It is the first refusal in the order words, length, layout, missing section, query text, and else the report.
+use Rattle.std.specs.Prelude.{◌≡◌, ℕ, ◌<◌, ◌≤◌, true, List, length, slice_range, Some, None, codes}
+use Rattle.kola_top.specs.declared.section.Span.{Span}
+use Rattle.kola_top.specs.declared.section.Sections.{Sections}
+use Rattle.kola_top.specs.declared.layout.LayoutFault.{LayoutFault}
+use Rattle.kola_top.specs.declared.words.Action.{Action}
+use Rattle.kola_top.specs.declared.words.Action.TheVariants.{Run}
+use Rattle.kola_top.specs.declared.status.Status.{Status}
+use Rattle.kola_top.specs.declared.status.Status.TheVariants as statuses
+use Rattle.kola_top.specs.Words.{action_of}
+use Rattle.kola_top.specs.Layout.{lines_of, kinds, AreSections, IsFirstFault}
+use Rattle.kola_top.specs.Lexemes.{Lexeme}
+use Rattle.kola_top.specs.SelectForm.{SelectForm, Says}
+use Rattle.kola_top.specs.SelectMeaning.{value_of_form, translation, visits_of_form}
+use Rattle.kola_top.specs.Spelling.{fun_spelling, value_spelling}
+use Rattle.kola_top.specs.Report.{Report, report_text}
+use Rattle.kola_top.specs.FaultLines.{usage_line, too_long_line, layout_fault_line, missing_line, not_built_line}
+
+-- the greatest length of a job, in bytes
+abbrev pub greatest_length : ℕ
+greatest_length = 16777216
+
+-- the text of a section
+abbrev pub text_at : List ℕ → Span → List ℕ
+text_at job p = slice_range job p.from p.to
+
+-- what `run` reports of a query: no block is named, and the one step that is taken changes nothing
+abbrev pub report_of_form : SelectForm → Report
+report_of_form f = record {
+  query = fun_spelling (translation f);
+  block = codes "-";
+  plan = fun_spelling (translation f);
+  outcome = codes "done";
+  ok = true;
+  firings = 0;
+  steps = 1;
+  visits = visits_of_form f;
+  result = value_spelling (value_of_form f);
+}
+
+-- Lexed text ls says that ls are the lexemes of the text
+module _ (Lexed : List ℕ → List Lexeme → Type 0) where
+  -- the text is a query of the form
+  pub record IsQuery (text : List ℕ) (f : SelectForm) : Type 0 where
+    pub lexemes : List Lexeme
+    pub lexed : Lexed text lexemes
+    pub says : Says lexemes f
+
+  -- the answer of `run` to a job whose sections were found
+  pub data RunAnswer (job : List ℕ) (found : Sections) : Status → List ℕ → Type 0 where
+    missing : found.query ≡ None → RunAnswer job found statuses.Layout (missing_line found.lines (codes "query"))
+    not_built : (p : Span) → found.query ≡ Some p → ((f : SelectForm) → IsQuery (text_at job p) f → ⊥) → RunAnswer job found statuses.Query not_built_line
+    report : (p : Span) (f : SelectForm) → found.query ≡ Some p → IsQuery (text_at job p) f → RunAnswer job found statuses.Ok (report_text (report_of_form f))
+
+  abbrev pub ActionAnswer : Action → List ℕ → Sections → Status → List ℕ → Type 0
+  ActionAnswer Run = RunAnswer
+
+  pub data Answer (words : List (List ℕ)) (job : List ℕ) : Status → List ℕ → Type 0 where
+    usage : action_of words ≡ None → Answer words job statuses.Usage usage_line
+    too_long : (a : Action) → action_of words ≡ Some a → greatest_length < length job → Answer words job statuses.TooLong too_long_line
+    layout : (a : Action) (fault : LayoutFault) → action_of words ≡ Some a → length job ≤ greatest_length → IsFirstFault (kinds (lines_of job)) fault → Answer words job statuses.Layout (layout_fault_line fault)
+    in_layout : (a : Action) (found : Sections) (status : Status) (bytes : List ℕ) → action_of words ≡ Some a → length job ≤ greatest_length → AreSections job found → ActionAnswer a job found status bytes → Answer words job status bytes

@@ -1,0 +1,18 @@
+-- The lexemes and the form that the program handles, as those of the grammar.
+use Rattle.std.specs.Prelude.{List, map}
+use Rattle.kola_top.specs.declared.form.Lexeme.{Lexeme as Handled}
+use Rattle.kola_top.specs.declared.form.Lexeme.TheVariants.{Word, Number, Sign}
+use Rattle.kola_top.specs.declared.form.SelectForm.{SelectForm as Read}
+use Rattle.kola_top.specs.Lexemes.{Lexeme, LWord, LNumber, LSign}
+use Rattle.kola_top.specs.SelectForm.{SelectForm}
+
+abbrev pub lexeme_view : Handled → Lexeme
+lexeme_view (Word bytes) = LWord bytes.now
+lexeme_view (Number n) = LNumber n
+lexeme_view (Sign bytes) = LSign bytes.now
+
+abbrev pub lexemes_view : List Handled → List Lexeme
+lexemes_view ls = map lexeme_view ls
+
+abbrev pub form_view : Read → SelectForm
+form_view f = record { variable = f.variable.now; numbers = f.numbers.items; bound = f.bound }

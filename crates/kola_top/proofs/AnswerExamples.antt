@@ -1,10 +1,9 @@
 -- The answer to the empty job, and to one without a query.
-use Rattle.std.proofs.Common.{ℕ, List, [], ◌∷◌, None, Ok, refl, arith}
+use Rattle.std.proofs.Common.{[], ◌∷◌, None, Ok, refl, arith}
 use Rattle.std.specs.Prelude.{codes}
 use Rattle.kola_top.specs.declared.section.Sections.{Sections}
 use Rattle.kola_top.specs.declared.words.Action.TheVariants.{Run}
 use Rattle.kola_top.specs.declared.status.Status.TheVariants as statuses
-use Rattle.kola_top.specs.Lexemes.{Lexeme}
 use Rattle.kola_top.specs.Layout.{lines_from, kind, trim_blanks, section_of}
 use Rattle.kola_top.specs.Scan.{walk, read}
 use Rattle.kola_top.specs.FaultLines.{missing_line, usage_line}
@@ -14,14 +13,13 @@ use Rattle.kola_top.proofs.FoundLaws.{walk_is}
 abbrev no_section : ℕ → Sections
 no_section lines = record { schema = None; database = None; rules = None; query = None; lines = lines }
 
-module _ (Lexed : List ℕ → List Lexeme → Type 0) where
-  empty_job : Answer Lexed (codes "run" ∷ []) [] statuses.Layout (missing_line 0 (codes "query"))
-  unfolding walk lines_from
-  empty_job = in_layout Run (no_section 0) _ _ refl (omega arith) (walk_is [] (Ok (no_section 0)) refl) (missing refl)
+empty_job : Answer (codes "run" ∷ []) [] statuses.Layout (missing_line 0 (codes "query"))
+unfolding walk lines_from
+empty_job = in_layout Run (no_section 0) _ _ refl (omega arith) (walk_is [] (Ok (no_section 0)) refl) (missing refl)
 
-  blank_job : Answer Lexed (codes "run" ∷ []) (codes " \n\t") statuses.Layout (missing_line 2 (codes "query"))
-  unfolding walk lines_from read kind trim_blanks section_of
-  blank_job = in_layout Run (no_section 2) _ _ refl (omega arith) (walk_is (codes " \n\t") (Ok (no_section 2)) refl) (missing refl)
+blank_job : Answer (codes "run" ∷ []) (codes " \n\t") statuses.Layout (missing_line 2 (codes "query"))
+unfolding walk lines_from read kind trim_blanks section_of
+blank_job = in_layout Run (no_section 2) _ _ refl (omega arith) (walk_is (codes " \n\t") (Ok (no_section 2)) refl) (missing refl)
 
-  no_action : Answer Lexed (codes "fly" ∷ []) (codes "x") statuses.Usage usage_line
-  no_action = usage refl
+no_action : Answer (codes "fly" ∷ []) (codes "x") statuses.Usage usage_line
+no_action = usage refl

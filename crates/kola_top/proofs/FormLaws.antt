@@ -1,7 +1,7 @@
 -- The lexemes of a text say at most one query of the form.
 use Rattle.std.proofs.Common.{◌≡◌, ℕ, List, [], ◌∷◌, ◌++◌, Option, Some, None, refl, sym, ap, ◌∙◌, arith}
 use Rattle.std.specs.Prelude.{ℤ, codes}
-use Rattle.kola_top.specs.Lexemes.{Lexeme, LWord, LNumber, LSign}
+use Rattle.kola_base.specs.Lexemes.{Lexeme, LWord, LNumber, LSign}
 use Rattle.kola_top.specs.SelectForm.{SelectForm, numbers_spelled, bound_spelled, spelled, Says}
 
 same_tail : {A : Type 0} {x y : A} {xs ys : List A} → x ∷ xs ≡ y ∷ ys → xs ≡ ys

@@ -9,7 +9,7 @@ use Rattle.kola_term.specs.Terms.{CInt, CSet, FId, FSnd, FComp, FPair, FK, FIter
 use Rattle.kola_top.specs.declared.layout.LayoutWhy.TheVariants.{UnknownSection}
 use Rattle.kola_top.specs.declared.words.Action.TheVariants.{Run}
 use Rattle.kola_top.specs.Words.{action_of}
-use Rattle.kola_top.specs.Lexemes.{LWord, LNumber, LSign}
+use Rattle.kola_base.specs.Lexemes.{LWord, LNumber, LSign}
 use Rattle.kola_top.specs.Names.{is_name, is_among}
 use Rattle.kola_top.specs.SelectForm.{SelectForm, spelled}
 use Rattle.kola_top.specs.SelectMeaning.{value_of_form, translation, visits_of_form}

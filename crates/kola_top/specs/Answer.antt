@@ -9,10 +9,13 @@ use Rattle.kola_top.specs.declared.status.Status.{Status}
 use Rattle.kola_top.specs.declared.status.Status.TheVariants as statuses
 use Rattle.kola_top.specs.Words.{action_of}
 use Rattle.kola_top.specs.Layout.{lines_of, kinds, AreSections, IsFirstFault}
-use Rattle.kola_top.specs.Lexemes.{Lexeme}
+use Rattle.kola_base.specs.declared.lex.Token.{Token}
+use Rattle.kola_base.specs.Tokens.{AreTokens}
+use Rattle.kola_base.specs.Lexemes.{lexemes}
 use Rattle.kola_top.specs.SelectForm.{SelectForm, Says}
 use Rattle.kola_top.specs.SelectMeaning.{value_of_form, translation, visits_of_form}
-use Rattle.kola_top.specs.Spelling.{fun_spelling, value_spelling}
+use Rattle.kola_text.specs.Spelling.{fun_spelling}
+use Rattle.kola_values.specs.Spelling.{value_spelling}
 use Rattle.kola_top.specs.Report.{Report, report_text}
 use Rattle.kola_top.specs.FaultLines.{usage_line, too_long_line, layout_fault_line, missing_line, not_built_line}
 
@@ -38,25 +41,28 @@ report_of_form f = record {
   result = value_spelling (value_of_form f);
 }
 
--- Lexed text ls says that ls are the lexemes of the text
-module _ (Lexed : List ℕ → List Lexeme → Type 0) where
-  -- the text is a query of the form
-  pub record IsQuery (text : List ℕ) (f : SelectForm) : Type 0 where
-    pub lexemes : List Lexeme
-    pub lexed : Lexed text lexemes
-    pub says : Says lexemes f
+-- the text is a query of the form: its tokens say one
+pub record IsQuery (text : List ℕ) (f : SelectForm) : Type 0 where
+  pub tokens : List Token
+  pub lexed : AreTokens tokens text
+  pub says : Says (lexemes text tokens) f
 
-  -- the answer of `run` to a job whose sections were found
-  pub data RunAnswer (job : List ℕ) (found : Sections) : Status → List ℕ → Type 0 where
-    missing : found.query ≡ None → RunAnswer job found statuses.Layout (missing_line found.lines (codes "query"))
-    not_built : (p : Span) → found.query ≡ Some p → ((f : SelectForm) → IsQuery (text_at job p) f → ⊥) → RunAnswer job found statuses.Query not_built_line
-    report : (p : Span) (f : SelectForm) → found.query ≡ Some p → IsQuery (text_at job p) f → RunAnswer job found statuses.Ok (report_text (report_of_form f))
+-- the query of the form that a text is, if it is one
+abbrev pub IsQueryReading : List ℕ → Option SelectForm → Type 0
+IsQueryReading text (Some f) = IsQuery text f
+IsQueryReading text None = (f : SelectForm) → IsQuery text f → ⊥
 
-  abbrev pub ActionAnswer : Action → List ℕ → Sections → Status → List ℕ → Type 0
-  ActionAnswer Run = RunAnswer
+-- the answer of `run` to a job whose sections were found
+pub data RunAnswer (job : List ℕ) (found : Sections) : Status → List ℕ → Type 0 where
+  missing : found.query ≡ None → RunAnswer job found statuses.Layout (missing_line found.lines (codes "query"))
+  not_built : (p : Span) → found.query ≡ Some p → ((f : SelectForm) → IsQuery (text_at job p) f → ⊥) → RunAnswer job found statuses.Query not_built_line
+  report : (p : Span) (f : SelectForm) → found.query ≡ Some p → IsQuery (text_at job p) f → RunAnswer job found statuses.Ok (report_text (report_of_form f))
 
-  pub data Answer (words : List (List ℕ)) (job : List ℕ) : Status → List ℕ → Type 0 where
-    usage : action_of words ≡ None → Answer words job statuses.Usage usage_line
-    too_long : (a : Action) → action_of words ≡ Some a → greatest_length < length job → Answer words job statuses.TooLong too_long_line
-    layout : (a : Action) (fault : LayoutFault) → action_of words ≡ Some a → length job ≤ greatest_length → IsFirstFault (kinds (lines_of job)) fault → Answer words job statuses.Layout (layout_fault_line fault)
-    in_layout : (a : Action) (found : Sections) (status : Status) (bytes : List ℕ) → action_of words ≡ Some a → length job ≤ greatest_length → AreSections job found → ActionAnswer a job found status bytes → Answer words job status bytes
+abbrev pub ActionAnswer : Action → List ℕ → Sections → Status → List ℕ → Type 0
+ActionAnswer Run = RunAnswer
+
+pub data Answer (words : List (List ℕ)) (job : List ℕ) : Status → List ℕ → Type 0 where
+  usage : action_of words ≡ None → Answer words job statuses.Usage usage_line
+  too_long : (a : Action) → action_of words ≡ Some a → greatest_length < length job → Answer words job statuses.TooLong too_long_line
+  layout : (a : Action) (fault : LayoutFault) → action_of words ≡ Some a → length job ≤ greatest_length → IsFirstFault (kinds (lines_of job)) fault → Answer words job statuses.Layout (layout_fault_line fault)
+  in_layout : (a : Action) (found : Sections) (status : Status) (bytes : List ℕ) → action_of words ≡ Some a → length job ≤ greatest_length → AreSections job found → ActionAnswer a job found status bytes → Answer words job status bytes

@@ -2,7 +2,7 @@
 use Rattle.std.specs.Prelude.{◌≡◌, ℕ, ℤ, List, [], ◌∷◌, ◌++◌, Option, Some, None, codes, if◌then◌else◌}
 use Rattle.std.specs.Option.{option_and_then}
 use Rattle.std.specs.Str.{bytes_eq}
-use Rattle.kola_top.specs.Lexemes.{Lexeme, LWord, LNumber, LSign}
+use Rattle.kola_base.specs.Lexemes.{Lexeme, LWord, LNumber, LSign}
 use Rattle.kola_top.specs.Names.{is_name}
 use Rattle.kola_top.specs.SelectForm.{SelectForm}
 

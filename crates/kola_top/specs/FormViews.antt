@@ -3,7 +3,7 @@ use Rattle.std.specs.Prelude.{List, map}
 use Rattle.kola_top.specs.declared.form.Lexeme.{Lexeme as Handled}
 use Rattle.kola_top.specs.declared.form.Lexeme.TheVariants.{Word, Number, Sign}
 use Rattle.kola_top.specs.declared.form.SelectForm.{SelectForm as Read}
-use Rattle.kola_top.specs.Lexemes.{Lexeme, LWord, LNumber, LSign}
+use Rattle.kola_base.specs.Lexemes.{Lexeme, LWord, LNumber, LSign}
 use Rattle.kola_top.specs.SelectForm.{SelectForm}
 
 abbrev pub lexeme_view : Handled → Lexeme

@@ -1,7 +1,6 @@
 pub mod Layout
 pub mod Views
 pub mod Scan
-pub mod Lexemes
 pub mod Names
 pub mod SelectForm
 pub mod SelectMeaning
@@ -9,7 +8,6 @@ pub mod Report
 pub mod Statuses
 pub mod Words
 pub mod FaultLines
-pub mod Spelling
 pub mod Answer
 pub mod FormReader
 pub mod FormViews

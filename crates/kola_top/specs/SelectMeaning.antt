@@ -1,6 +1,8 @@
 -- What a query of the one form means, and the term that stands for it.
-use Rattle.std.specs.Prelude.{ℕ, ℤ, true, List, [], map, filter, int_lt, Option, Some, None}
+use Rattle.std.specs.Prelude.{ℕ, ℤ, Bool, true, List, [], map, filter, int_lt, Option, Some, None}
 use Rattle.kola_values.specs.Values.{ValueTree, VUnit, VInt}
+use Rattle.std.specs.Ordering.{is_lt}
+use Rattle.kola_values.specs.Order.{cmp}
 use Rattle.kola_values.specs.Sets.{canon, set_of}
 use Rattle.kola_term.specs.Terms.{CInt, CSet, FunTree, FId, FSnd, FComp, FPair, FK, FIter, PredTree, PLt, PAt, PKP}
 use Rattle.kola_term.specs.Visits.{visits}
@@ -27,3 +29,8 @@ translation f = FComp (FIter (condition f.bound) FSnd) (FPair FId (FK (CSet (can
 -- the members that the term visits at the unit; no class and no object is needed
 abbrev pub visits_of_form : SelectForm → ℕ
 visits_of_form f = visits [] [] (translation f) VUnit
+
+-- a value is below the bound, if there is one
+abbrev pub is_below : Option ℤ → ValueTree → Bool
+is_below None v = true
+is_below (Some b) v = is_lt (cmp v (VInt b))

@@ -3,7 +3,7 @@
 ghost use Rattle.std.specs.Prelude.{◌≡◌, ℕ, List, length, map};
 ghost use Rattle.std.specs.Str.Lines.{lines};
 ghost use Rattle.kola_top.specs.Layout.{AreInARow, Line, lines_of};
-ghost use Rattle.kola_top.specs.Lexemes.{Lexeme};
+ghost use Rattle.kola_base.specs.Lexemes.{Lexeme};
 ghost use Rattle.kola_top.specs.SelectForm.{Says, SelectForm};
 
 /// The lines of a job are those of `str::lines`, and lie one behind another from its first byte to its end.

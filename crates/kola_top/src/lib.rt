@@ -6,7 +6,9 @@ mod laws;
 mod layout;
 mod lines;
 mod output;
+mod query;
 mod section;
+mod select;
 mod status;
 mod words;
 

@@ -12,3 +12,4 @@ pub mod Answer
 pub mod FormReader
 pub mod FormViews
 pub mod ReportViews
+pub mod Runs

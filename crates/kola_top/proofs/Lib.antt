@@ -6,5 +6,7 @@ mod FormLaws
 pub mod FormReads
 mod AnswerLaws
 mod AnswerExamples
+mod LexemeLoop
+mod QueryReading
 mod Examples
 mod QueryExamples

@@ -1,5 +1,5 @@
 -- The answer to the words and a job: its status and the bytes that are written. It is the first refusal in the order words, length, layout, missing section, query text, and else the report.
-use Rattle.std.specs.Prelude.{◌≡◌, ℕ, ◌<◌, ◌≤◌, true, List, length, slice_range, Some, None, codes}
+use Rattle.std.specs.Prelude.{◌≡◌, ℕ, ◌<◌, ◌≤◌, true, Option, List, length, slice_range, Some, None, codes}
 use Rattle.kola_top.specs.declared.section.Span.{Span}
 use Rattle.kola_top.specs.declared.section.Sections.{Sections}
 use Rattle.kola_top.specs.declared.layout.LayoutFault.{LayoutFault}

@@ -22,6 +22,7 @@ use kola_values::push_set;
 use std::alloc::Global;
 
 /// The status of an answer and the bytes that are written.
+#[derive(Drop)]
 pub struct Reply {
     pub status: Status,
     pub bytes: Vec<u8>,
@@ -58,16 +59,25 @@ fn run_answer(alloc: Global, job: &[u8], found: &Sections) -> Result<Reply, Memo
 {
     let Some(span) = found.query else {
         let bytes = missing_line(alloc, found.lines, "query")?.into_bytes();
-        return Ok(Reply { status: Status::Layout, bytes });
+        return Ok(Reply {
+            status: Status::Layout,
+            bytes,
+        });
     };
     match query_of(alloc, &job[span.from..span.to])? {
         Some(form) => {
             let bytes = report_on(alloc, &form)?;
-            Ok(Reply { status: Status::Ok, bytes })
+            Ok(Reply {
+                status: Status::Ok,
+                bytes,
+            })
         }
         None => {
             let bytes = query_line(alloc, 0, "NotBuilt")?.into_bytes();
-            Ok(Reply { status: Status::Query, bytes })
+            Ok(Reply {
+                status: Status::Query,
+                bytes,
+            })
         }
     }
 }
@@ -85,7 +95,10 @@ pub fn answer_to(alloc: Global, action: Action, job: &[u8]) -> Result<Reply, Mem
         },
         Err(fault) => {
             let bytes = layout_fault_line(alloc, fault)?.into_bytes();
-            Ok(Reply { status: Status::Layout, bytes })
+            Ok(Reply {
+                status: Status::Layout,
+                bytes,
+            })
         }
     }
 }

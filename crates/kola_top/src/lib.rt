@@ -1,12 +1,14 @@
 //! The top call: a job in, a report out.
 #![tactic(auto)]
 
+mod answer;
 mod form;
 mod laws;
 mod layout;
 mod lines;
 mod output;
 mod query;
+mod run;
 mod section;
 mod select;
 mod status;

@@ -18,6 +18,7 @@ pub const USAGE: &str =
 pub const TOO_LONG: &str = "fault: job too long\n";
 
 /// What `run` reports. The query, the plan and the result are their texts.
+#[derive(Drop)]
 pub struct Report<'a> {
     pub query: &'a [u8],
     pub block: &'a [u8],

@@ -9,7 +9,7 @@ ghost use Rattle.kola_top.specs.FormViews.{form_view, lexemes_view};
 use crate::form::{Lexeme, SelectForm, read_form};
 use kola_base::{Kind, LexFault, Token, number_of, tokens};
 use kola_core::Memory;
-use std::alloc::Global;
+use std::alloc::{AllocError, Global};
 
 /// Adds what a token says; the end says nothing.
 fn push_lexeme<'a>(out: &mut Vec<Lexeme<'a>>, text: &'a [u8], token: &Token) -> Result<(), Memory>
@@ -52,6 +52,6 @@ pub fn query_of<'a>(alloc: Global, text: &'a [u8]) -> Result<Option<SelectForm<'
             read_form(alloc, &lexemes)
         }
         Err(LexFault::At { .. }) => Ok(None),
-        Err(LexFault::Memory) => Err(Memory),
+        Err(LexFault::Memory) => Err(AllocError),
     }
 }

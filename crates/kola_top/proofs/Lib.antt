@@ -8,3 +8,4 @@ mod AnswerLaws
 mod AnswerExamples
 mod Examples
 mod QueryExamples
+mod SelectLaws

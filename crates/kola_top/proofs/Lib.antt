@@ -9,3 +9,4 @@ mod AnswerExamples
 mod Examples
 mod QueryExamples
 mod SelectLaws
+mod SelectSets

@@ -10,3 +10,5 @@ mod LexemeLoop
 mod QueryReading
 mod Examples
 mod QueryExamples
+mod SelectLaws
+mod SelectSets

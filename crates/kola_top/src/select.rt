@@ -1,7 +1,8 @@
 //! The one form of query, translated to its term and evaluated.
 
-ghost use Rattle.std.specs.Prelude.{◌≡◌, ◌<◌, map, filter, IfOk, length};
+ghost use Rattle.std.specs.Prelude.{◌≡◌, ◌<◌, map, filter, IfOk, length, option_map};
 ghost use Rattle.kola_values.specs.Values.{VInt};
+ghost use Rattle.kola_values.specs.Views.{value_tree};
 ghost use Rattle.kola_values.specs.Sets.{canon};
 ghost use Rattle.kola_term.specs.Terms.{CSet, FId, FSnd, FComp, FPair, FK, FIter};
 ghost use Rattle.kola_term.specs.TermView.{fun_tree, pred_tree};
@@ -21,6 +22,19 @@ pub fn set_of(alloc: Global, numbers: &[i64]) -> Result<Set, Memory>
         members.push(Value::Int(*number))?;
     }
     Set::from_members(alloc, members)
+}
+
+/// The set of these integers as a constant.
+pub fn literals_of(alloc: Global, numbers: &[i64]) -> Result<LitSet, Memory>
+    requires { 0 < length numbers.now }
+    ensures { IfOk result (λ s. s ≡ canon (map VInt numbers.now)) }
+{
+    let set = set_of(alloc, numbers)?;
+    set.well_formed();
+    match LitSet::make(set) {
+        Some(literals) => Ok(literals),
+        None => unreachable!(),
+    }
 }
 
 /// The condition on the variable, which stands last in the environment.
@@ -45,9 +59,11 @@ pub fn translate(alloc: Global, set: LitSet, bound: Option<i64>) -> Result<Fun, 
 }
 
 /// Whether a value is below the bound, where there is one.
-fn is_below(bound: &Option<Value>, v: &Value) -> bool {
+fn is_below(bound: Option<i64>, v: &Value) -> bool
+    ensures { result ≡ is_below bound (value_tree v.now) }
+{
     match bound {
-        Some(bound) => cmp_values(v, bound).is_lt(),
+        Some(bound) => cmp_values(v, &Value::Int(bound)).is_lt(),
         None => true,
     }
 }
@@ -56,10 +72,10 @@ fn is_below(bound: &Option<Value>, v: &Value) -> bool {
 pub fn members_below(alloc: Global, set: &Set, bound: Option<i64>) -> Result<Set, Memory>
     ensures { IfOk result (λ s. s ≡ filter (is_below bound) set.now) }
 {
-    let bound = bound.map(Value::Int);
+    set.well_formed();
     let mut members = Vec::new(alloc);
     for v in set.as_slice() {
-        if is_below(&bound, v) {
+        if is_below(bound, v) {
             members.push(v.copy()?)?;
         }
     }

@@ -4,7 +4,8 @@ pub mod FoundLaws
 mod RowLaws
 mod FormLaws
 pub mod FormReads
-mod AnswerLaws
+pub mod AnswerLaws
+mod RunLaws
 mod AnswerExamples
 mod LexemeLoop
 mod QueryReading

@@ -2,6 +2,7 @@
 #![tactic(auto)]
 
 mod answer;
+mod answer_laws;
 mod form;
 mod laws;
 mod layout;
@@ -14,7 +15,9 @@ mod select;
 mod status;
 mod words;
 
+pub use answer_laws::a_job_has_one_answer;
 pub use laws::{lexemes_say_one_form, lines_make_up_the_job};
 pub use layout::{LayoutFault, LayoutWhy, sections};
+pub use run::run_kola;
 pub use section::{Sections, Span};
 pub use status::Status;

@@ -4,18 +4,25 @@ ghost use Rattle.std.specs.Prelude.{◌≡◌, ◌++◌, ◌<◌, IfOk, OnOk};
 ghost use Rattle.std.specs.String.{string_bytes};
 ghost use Rattle.std.specs.Fmt.{decimal};
 ghost use Rattle.kola_top.specs.Report.{report_line, report_text, truth_text};
-ghost use Rattle.kola_top.specs.FaultLines.{layout_cause, layout_line, layout_fault_line, missing_line, query_line};
+ghost use Rattle.kola_top.specs.FaultLines.{usage_line, too_long_line, layout_cause, layout_line, layout_fault_line, missing_line, query_line};
 ghost use Rattle.kola_top.specs.ReportViews.{report_view};
 
 use crate::layout::{LayoutFault, LayoutWhy};
 use std::alloc::{AllocError, Global};
 
 /// What is written where the words are no command.
-pub const USAGE: &str =
-    "usage: kola check|translate|plan|optimize|run|gen [NUMBER] [--block NAME] [--budget N] [--visits N]\n";
+pub fn usage_line() -> &'static [u8]
+    ensures { result.now ≡ usage_line }
+{
+    b"usage: kola check|translate|plan|optimize|run|gen [NUMBER] [--block NAME] [--budget N] [--visits N]\n"
+}
 
 /// What is written where the job is too long.
-pub const TOO_LONG: &str = "fault: job too long\n";
+pub fn too_long_line() -> &'static [u8]
+    ensures { result.now ≡ too_long_line }
+{
+    b"fault: job too long\n"
+}
 
 /// What `run` reports. The query, the plan and the result are their texts.
 #[derive(Drop)]

@@ -10,7 +10,7 @@ ghost use Rattle.kola_top.specs.declared.status.Status.{Status};
 ghost use Rattle.kola_top.specs.Words.{action_of};
 
 use crate::answer::{Reply, answer_to};
-use crate::output::{TOO_LONG, USAGE};
+use crate::output::{too_long_line, usage_line};
 use crate::status::Status;
 use crate::words::action_of;
 use kola_base::{ReadAllFault, Sink, Source, read_all, write_all};
@@ -61,14 +61,14 @@ pub fn run_kola<S: Source, K: Sink>(
     ensures to_the_end { result ≡ Status.Ok → IsAtEnd (S.left source.new) }
 {
     let Some(action) = action_of(words) else {
-        return write_answer(sink, Status::Usage, USAGE.as_bytes());
+        return write_answer(sink, Status::Usage, usage_line());
     };
     match read_all(alloc, source, GREATEST_LENGTH) {
         Ok(job) => match answer_to(alloc, action, &job) {
             Ok(Reply { status, bytes }) => write_answer(sink, status, &bytes),
             Err(_) => Status::Memory,
         },
-        Err(ReadAllFault::TooLong) => write_answer(sink, Status::TooLong, TOO_LONG.as_bytes()),
+        Err(ReadAllFault::TooLong) => write_answer(sink, Status::TooLong, too_long_line()),
         Err(ReadAllFault::Read) => Status::ReadFault,
         Err(ReadAllFault::Memory) => Status::Memory,
     }

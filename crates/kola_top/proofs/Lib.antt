@@ -7,6 +7,7 @@ pub mod FormReads
 pub mod AnswerLaws
 mod RunLaws
 mod AnswerExamples
+pub mod PlaceLaws
 mod LexemeLoop
 mod QueryReading
 mod Examples

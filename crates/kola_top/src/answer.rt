@@ -1,8 +1,9 @@
 //! The answer to a job that was read: its status and the bytes that are written.
 
-ghost use Rattle.std.specs.Prelude.{◌≡◌, ◌≤◌, ℕ, List, IfOk, IsTrue, Some, length};
+ghost use Rattle.std.specs.Prelude.{◌≡◌, ◌≤◌, ◌<◌, ℕ, List, IfOk, IsTrue, Some, length};
 ghost use Rattle.kola_top.specs.Answer.{Answer, RunAnswer, greatest_length, report_of_form};
 ghost use Rattle.kola_top.specs.FormViews.{form_view};
+ghost use Rattle.kola_top.specs.Layout.{AreSections};
 ghost use Rattle.kola_top.specs.Report.{report_text};
 ghost use Rattle.kola_top.specs.Runs.{is_written};
 ghost use Rattle.kola_top.specs.Words.{action_of};
@@ -13,6 +14,7 @@ use crate::output::{Report, layout_fault_line, missing_line, query_line, report_
 use crate::query::query_of;
 use crate::section::Sections;
 use crate::select::{literals_of, members_below, translate};
+use crate::select_laws::{select_is_evaluated_rightly, select_is_translated_rightly};
 use crate::status::Status;
 use crate::words::Action;
 use kola_core::Memory;
@@ -30,8 +32,11 @@ pub struct Reply {
 
 /// The report on a query of the form.
 fn report_on(alloc: Global, form: &SelectForm<'_>) -> Result<Vec<u8>, Memory>
+    requires { 0 < length form.now.numbers.items }
     ensures { IfOk result (λ bytes. bytes.items ≡ report_text (report_of_form (form_view form.now))) }
 {
+    select_is_translated_rightly();
+    select_is_evaluated_rightly();
     let set = literals_of(alloc, &form.numbers)?;
     let visits = set.set().len() as u64;
     let mut result = Vec::new(alloc);
@@ -55,7 +60,10 @@ fn report_on(alloc: Global, form: &SelectForm<'_>) -> Result<Vec<u8>, Memory>
 
 /// The answer of `run` to a job whose sections were found.
 fn run_answer(alloc: Global, job: &[u8], found: &Sections) -> Result<Reply, Memory>
-    ensures { IfOk result (λ reply. RunAnswer job.now found.now reply.status reply.bytes.items) }
+    requires length { length job.now ≤ greatest_length }
+    requires found { AreSections job.now found.now }
+    ensures answer { IfOk result (λ reply. RunAnswer job.now found.now reply.status reply.bytes.items) }
+    ensures written { IfOk result (λ reply. IsTrue (is_written reply.status)) }
 {
     let Some(span) = found.query else {
         let bytes = missing_line(alloc, found.lines, "query")?.into_bytes();

@@ -12,6 +12,7 @@ mod query;
 mod run;
 mod section;
 mod select;
+mod select_laws;
 mod status;
 mod words;
 
@@ -20,4 +21,5 @@ pub use laws::{lexemes_say_one_form, lines_make_up_the_job};
 pub use layout::{LayoutFault, LayoutWhy, sections};
 pub use run::run_kola;
 pub use section::{Sections, Span};
+pub use select_laws::{select_is_evaluated_rightly, select_is_translated_rightly};
 pub use status::Status;

@@ -81,15 +81,3 @@ pub fn members_below(alloc: Global, set: &Set, bound: Option<i64>) -> Result<Set
     }
     Ok(Set::from_rising(members))
 }
-
-/// The set of these integers, of which there is one, as a constant of terms.
-pub fn literals_of(alloc: Global, numbers: &[i64]) -> Result<LitSet, Memory>
-    requires { 0 < length numbers.now }
-    ensures { IfOk result (λ s. s ≡ canon (map VInt numbers.now)) }
-{
-    let set = set_of(alloc, numbers)?;
-    match LitSet::make(set) {
-        Some(literals) => Ok(literals),
-        None => unreachable!(),
-    }
-}

@@ -1,18 +1,18 @@
 -- The term of a query, and its evaluation, mean what the query means.
-use Rattle.std.proofs.Common.{◌≡◌, ℕ, ℤ, ◌+◌, Bool, true, false, cond, ◌&&◌, List, [], ◌∷◌, length, map, filter, sum_by, Option, Some, None, Ordering, refl, sym, ap, ◌∙◌, arith, int_lt}
+use Rattle.std.proofs.Common.{◌≡◌, ℕ, ℤ, ◌+◌, Bool, true, false, cond, ◌&&◌, List, [], ◌∷◌, length, map, filter, sum_by, Option, Some, None, refl, sym, ap, ◌∙◌, arith, int_lt}
 use Rattle.std.proofs.lemmas.Int.{ints}
 use mathlib.Core.Path.{fun_ext}
 use Rattle.std.specs.Ordering.{int_cmp, is_lt}
 use Rattle.std.proofs.lemmas.List.Sums.{sum_by-cons}
-use Rattle.kola_values.specs.Values.{ValueTree, VUnit, VInt, VSet, VPair, of_items}
+use Rattle.kola_values.specs.Values.{ValueTree, VUnit, VInt, VSet, of_items}
 use Rattle.kola_values.specs.Order.{cmp}
 use Rattle.kola_values.specs.Sets.{canon, any, members, set_of}
 use Rattle.kola_values.specs.Databases.{Classes, Objects}
 use Rattle.kola_values.proofs.Anys.{one_list, rising, set_ext, any_canon, any_map, any_filter, any_members, canon_rising, items-of_items}
 use Rattle.kola_values.proofs.Merging.{rising_filter}
 use Rattle.kola_term.specs.Terms.{FunTree, FId, FSnd, FComp, FPair, FK, FIter, CSet}
-use Rattle.kola_term.specs.Meaning.{den, holds_at}
-use Rattle.kola_term.specs.Visits.{visits, pred_visits}
+use Rattle.kola_term.specs.Meaning.{den}
+use Rattle.kola_term.specs.Visits.{visits}
 use Rattle.kola_top.specs.SelectForm.{SelectForm}
 use Rattle.kola_top.specs.SelectMeaning.{below_bound, value_of_form, condition, translation, is_below}
 

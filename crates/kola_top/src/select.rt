@@ -1,6 +1,6 @@
 //! The one form of query, translated to its term and evaluated.
 
-ghost use Rattle.std.specs.Prelude.{◌≡◌, ◌<◌, map, filter, IfOk, length, option_map};
+ghost use Rattle.std.specs.Prelude.{◌≡◌, ◌<◌, map, filter, IfOk, length};
 ghost use Rattle.kola_values.specs.Values.{VInt};
 ghost use Rattle.kola_values.specs.Views.{value_tree};
 ghost use Rattle.kola_values.specs.Sets.{canon};
@@ -24,7 +24,7 @@ pub fn set_of(alloc: Global, numbers: &[i64]) -> Result<Set, Memory>
     Set::from_members(alloc, members)
 }
 
-/// The set of these integers as a constant.
+/// The set of these integers as a constant; there is one at least.
 pub fn literals_of(alloc: Global, numbers: &[i64]) -> Result<LitSet, Memory>
     requires { 0 < length numbers.now }
     ensures { IfOk result (λ s. s ≡ canon (map VInt numbers.now)) }

@@ -1,4 +1,4 @@
-use Rattle.std.proofs.Common.{◌∙◌, ap, map, filter, refl, sym, subst, arith}
+use Rattle.std.proofs.Common.{◌∙◌, ap, map, filter, sym, subst, arith}
 use Rattle.std.proofs.lemmas.List.{take_all, length-map}
 use Rattle.kola_values.specs.Views.{value_tree}
 use Rattle.kola_values.specs.Sets.{Rising}

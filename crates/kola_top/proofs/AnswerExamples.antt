@@ -7,7 +7,7 @@ use Rattle.kola_top.specs.declared.status.Status.TheVariants as statuses
 use Rattle.kola_top.specs.Layout.{lines_from, kind, trim_blanks, section_of}
 use Rattle.kola_top.specs.Scan.{walk, read}
 use Rattle.kola_top.specs.FaultLines.{missing_line, usage_line}
-use Rattle.kola_top.specs.Answer.{Answer, usage, in_layout, missing}
+use Rattle.kola_top.specs.Answer.{Answer, usage, in_layout}
 use Rattle.kola_top.proofs.FoundLaws.{walk_is}
 
 abbrev no_section : ℕ → Sections
@@ -15,11 +15,11 @@ no_section lines = record { schema = None; database = None; rules = None; query 
 
 empty_job : Answer (codes "run" ∷ []) [] statuses.Layout (missing_line 0 (codes "query"))
 unfolding walk lines_from
-empty_job = in_layout Run (no_section 0) _ _ refl (omega arith) (walk_is [] (Ok (no_section 0)) refl) (missing refl)
+empty_job = in_layout Run (no_section 0) _ _ refl (omega arith) (walk_is [] (Ok (no_section 0)) refl) (refl, refl)
 
 blank_job : Answer (codes "run" ∷ []) (codes " \n\t") statuses.Layout (missing_line 2 (codes "query"))
 unfolding walk lines_from read kind trim_blanks section_of
-blank_job = in_layout Run (no_section 2) _ _ refl (omega arith) (walk_is (codes " \n\t") (Ok (no_section 2)) refl) (missing refl)
+blank_job = in_layout Run (no_section 2) _ _ refl (omega arith) (walk_is (codes " \n\t") (Ok (no_section 2)) refl) (refl, refl)
 
 no_action : Answer (codes "fly" ∷ []) (codes "x") statuses.Usage usage_line
 no_action = usage refl

@@ -8,6 +8,7 @@ pub mod AnswerLaws
 mod RunLaws
 mod AnswerExamples
 pub mod PlaceLaws
+mod ReportLaws
 mod LexemeLoop
 mod QueryReading
 mod Examples

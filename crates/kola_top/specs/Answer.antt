@@ -27,19 +27,22 @@ greatest_length = 16777216
 abbrev pub text_at : List ℕ → Span → List ℕ
 text_at job p = slice_range job p.from p.to
 
--- what `run` reports of a query: no block is named, and the one step that is taken changes nothing
-abbrev pub report_of_form : SelectForm → Report
-report_of_form f = record {
-  query = fun_spelling (translation f);
+-- what `run` reports where no block is named: the one step that is taken changes nothing
+abbrev pub unchanged_report : List ℕ → ℕ → List ℕ → Report
+unchanged_report query visits result = record {
+  query = query;
   block = codes "-";
-  plan = fun_spelling (translation f);
+  plan = query;
   outcome = codes "done";
   ok = true;
   firings = 0;
   steps = 1;
-  visits = visits_of_form f;
-  result = value_spelling (value_of_form f);
+  visits = visits;
+  result = result;
 }
+
+abbrev pub report_of_form : SelectForm → Report
+report_of_form f = unchanged_report (fun_spelling (translation f)) (visits_of_form f) (value_spelling (value_of_form f))
 
 -- the text is a query of the form: its tokens say one
 pub record IsQuery (text : List ℕ) (f : SelectForm) : Type 0 where
@@ -52,11 +55,19 @@ abbrev pub IsQueryReading : List ℕ → Option SelectForm → Type 0
 IsQueryReading text (Some f) = IsQuery text f
 IsQueryReading text None = (f : SelectForm) → IsQuery text f → ⊥
 
+-- the answer to the text of a query
+pub data QueryAnswer (text : List ℕ) : Status → List ℕ → Type 0 where
+  not_built : ((f : SelectForm) → IsQuery text f → ⊥) → QueryAnswer text statuses.Query not_built_line
+  report : (f : SelectForm) → IsQuery text f → QueryAnswer text statuses.Ok (report_text (report_of_form f))
+
+-- where the query's text lies at a place, or nowhere in a job of so many lines
+abbrev pub AnswerAt : List ℕ → ℕ → Option Span → Status → List ℕ → Type 0
+AnswerAt job lines None status bytes = (status ≡ statuses.Layout) × (bytes ≡ missing_line lines (codes "query"))
+AnswerAt job lines (Some p) status bytes = QueryAnswer (text_at job p) status bytes
+
 -- the answer of `run` to a job whose sections were found
-pub data RunAnswer (job : List ℕ) (found : Sections) : Status → List ℕ → Type 0 where
-  missing : found.query ≡ None → RunAnswer job found statuses.Layout (missing_line found.lines (codes "query"))
-  not_built : (p : Span) → found.query ≡ Some p → ((f : SelectForm) → IsQuery (text_at job p) f → ⊥) → RunAnswer job found statuses.Query not_built_line
-  report : (p : Span) (f : SelectForm) → found.query ≡ Some p → IsQuery (text_at job p) f → RunAnswer job found statuses.Ok (report_text (report_of_form f))
+abbrev pub RunAnswer : List ℕ → Sections → Status → List ℕ → Type 0
+RunAnswer job found status bytes = AnswerAt job found.lines found.query status bytes
 
 abbrev pub ActionAnswer : Action → List ℕ → Sections → Status → List ℕ → Type 0
 ActionAnswer Run = RunAnswer

@@ -1,11 +1,17 @@
 //! The answer to a job that was read: its status and the bytes that are written.
 
-ghost use Rattle.std.specs.Prelude.{◌≡◌, ◌≤◌, ◌<◌, ℕ, List, IfOk, IsTrue, Some, length};
-ghost use Rattle.kola_top.specs.Answer.{Answer, RunAnswer, greatest_length, report_of_form};
+ghost use Rattle.std.specs.Prelude.{◌≡◌, ◌≤◌, ◌<◌, ℕ, List, IfOk, IsTrue, Some, length, filter, codes};
+ghost use Rattle.kola_values.specs.Values.{VSet, of_items};
+ghost use Rattle.kola_values.specs.Spelling.{value_spelling};
+ghost use Rattle.kola_term.specs.Terms.{CSet, FId, FSnd, FComp, FPair, FK, FIter};
+ghost use Rattle.kola_text.specs.Spelling.{fun_spelling};
+ghost use Rattle.kola_top.specs.Answer.{Answer, QueryAnswer, RunAnswer, greatest_length, report_of_form, unchanged_report};
+ghost use Rattle.kola_top.specs.FaultLines.{missing_line};
 ghost use Rattle.kola_top.specs.FormViews.{form_view};
 ghost use Rattle.kola_top.specs.Layout.{AreSections};
 ghost use Rattle.kola_top.specs.Report.{report_text};
 ghost use Rattle.kola_top.specs.Runs.{is_written};
+ghost use Rattle.kola_top.specs.SelectMeaning.{condition, is_below};
 ghost use Rattle.kola_top.specs.Words.{action_of};
 
 use crate::form::SelectForm;
@@ -18,9 +24,9 @@ use crate::select_laws::{select_is_evaluated_rightly, select_is_translated_right
 use crate::status::Status;
 use crate::words::Action;
 use kola_core::Memory;
-use kola_term::Term;
+use kola_term::{LitSet, Term};
 use kola_text::print_term;
-use kola_values::push_set;
+use kola_values::{Set, push_set};
 use std::alloc::Global;
 
 /// The status of an answer and the bytes that are written.
@@ -28,6 +34,51 @@ use std::alloc::Global;
 pub struct Reply {
     pub status: Status,
     pub bytes: Vec<u8>,
+}
+
+/// The text of a query's term.
+fn term_text(alloc: Global, set: LitSet, bound: Option<i64>) -> Result<Vec<u8>, Memory>
+    ensures { IfOk result (λ text. text.items
+        ≡ fun_spelling (FComp (FIter (condition bound) FSnd) (FPair FId (FK (CSet set))))) }
+{
+    let term = Term::F(translate(alloc, set, bound)?);
+    let text = print_term(alloc, &term)?;
+    Ok(text)
+}
+
+/// The text of a query's value.
+fn result_text(alloc: Global, set: &Set, bound: Option<i64>) -> Result<Vec<u8>, Memory>
+    ensures { IfOk result (λ text. text.items ≡ value_spelling (VSet (of_items (filter (is_below bound) set.now)))) }
+{
+    let members = members_below(alloc, set, bound)?;
+    let mut text = Vec::new(alloc);
+    push_set(&mut text, &members)?;
+    Ok(text)
+}
+
+/// The report where no block is named.
+fn unchanged_report(
+    alloc: Global,
+    query: &[u8],
+    visits: u64,
+    outcome: &[u8],
+) -> Result<Vec<u8>, Memory>
+    ensures { IfOk result (λ bytes. bytes.items ≡ report_text (unchanged_report query.now visits outcome.now)) }
+{
+    report_text(
+        alloc,
+        &Report {
+            query,
+            block: b"-",
+            plan: query,
+            outcome: b"done",
+            ok: true,
+            firings: 0,
+            steps: 1,
+            visits,
+            result: outcome,
+        },
+    )
 }
 
 /// The report on a query of the form.
@@ -39,40 +90,41 @@ fn report_on(alloc: Global, form: &SelectForm<'_>) -> Result<Vec<u8>, Memory>
     select_is_evaluated_rightly();
     let set = literals_of(alloc, &form.numbers)?;
     let visits = set.set().len() as u64;
-    let mut result = Vec::new(alloc);
-    push_set(&mut result, &members_below(alloc, set.set(), form.bound)?)?;
-    let term = print_term(alloc, &Term::F(translate(alloc, set, form.bound)?))?;
-    report_text(
-        alloc,
-        &Report {
-            query: &term,
-            block: b"-",
-            plan: &term,
-            outcome: b"done",
-            ok: true,
-            firings: 0,
-            steps: 1,
-            visits,
-            result: &result,
-        },
-    )
+    let value = result_text(alloc, set.set(), form.bound)?;
+    let query = term_text(alloc, set, form.bound)?;
+    let bytes = unchanged_report(alloc, &query, visits, &value)?;
+    Ok(bytes)
 }
 
 /// The answer of `run` to a job whose sections were found.
 fn run_answer(alloc: Global, job: &[u8], found: &Sections) -> Result<Reply, Memory>
     requires length { length job.now ≤ greatest_length }
     requires found { AreSections job.now found.now }
-    ensures answer { IfOk result (λ reply. RunAnswer job.now found.now reply.status reply.bytes.items) }
-    ensures written { IfOk result (λ reply. IsTrue (is_written reply.status)) }
+    ensures { IfOk result (λ reply. RunAnswer job.now found.now reply.status reply.bytes.items) }
 {
-    let Some(span) = found.query else {
-        let bytes = missing_line(alloc, found.lines, "query")?.into_bytes();
-        return Ok(Reply {
-            status: Status::Layout,
-            bytes,
-        });
-    };
-    match query_of(alloc, &job[span.from..span.to])? {
+    match found.query {
+        None => missing_answer(alloc, found.lines),
+        Some(span) => query_answer(alloc, &job[span.from..span.to]),
+    }
+}
+
+/// The answer to a job of so many lines that has no query.
+fn missing_answer(alloc: Global, lines: u64) -> Result<Reply, Memory>
+    requires { lines < u64.MAX }
+    ensures { IfOk result (λ reply. (reply.status ≡ Status.Layout) × (reply.bytes.items ≡ missing_line lines (codes "query"))) }
+{
+    let line = missing_line(alloc, lines, "query")?;
+    Ok(Reply {
+        status: Status::Layout,
+        bytes: line.into_bytes(),
+    })
+}
+
+/// The answer to the text of a query.
+fn query_answer(alloc: Global, text: &[u8]) -> Result<Reply, Memory>
+    ensures { IfOk result (λ reply. QueryAnswer text.now reply.status reply.bytes.items) }
+{
+    match query_of(alloc, text)? {
         Some(form) => {
             let bytes = report_on(alloc, &form)?;
             Ok(Reply {
@@ -81,10 +133,10 @@ fn run_answer(alloc: Global, job: &[u8], found: &Sections) -> Result<Reply, Memo
             })
         }
         None => {
-            let bytes = query_line(alloc, 0, "NotBuilt")?.into_bytes();
+            let line = query_line(alloc, 0, "NotBuilt")?;
             Ok(Reply {
                 status: Status::Query,
-                bytes,
+                bytes: line.into_bytes(),
             })
         }
     }
@@ -99,7 +151,10 @@ pub fn answer_to(alloc: Global, action: Action, job: &[u8]) -> Result<Reply, Mem
 {
     match sections(job) {
         Ok(found) => match action {
-            Action::Run => run_answer(alloc, job, &found),
+            Action::Run => {
+                let reply = run_answer(alloc, job, &found)?;
+                Ok(reply)
+            }
         },
         Err(fault) => {
             let bytes = layout_fault_line(alloc, fault)?.into_bytes();

@@ -13,6 +13,8 @@ mod run;
 mod section;
 mod select;
 mod status;
+#[cfg(test)]
+mod tests;
 mod words;
 
 pub use answer_laws::a_job_has_one_answer;

@@ -1,5 +1,5 @@
 -- The answer to the empty job, and to one without a query.
-use Rattle.std.proofs.Common.{[], ◌∷◌, None, Ok, refl, arith}
+use Rattle.std.proofs.Common.{ℕ, [], ◌∷◌, None, Ok, refl, arith}
 use Rattle.std.specs.Prelude.{codes}
 use Rattle.kola_top.specs.declared.section.Sections.{Sections}
 use Rattle.kola_top.specs.declared.words.Action.TheVariants.{Run}

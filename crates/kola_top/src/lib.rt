@@ -14,6 +14,8 @@ mod section;
 mod select;
 mod select_laws;
 mod status;
+#[cfg(test)]
+mod tests;
 mod words;
 
 pub use answer_laws::a_job_has_one_answer;

@@ -1,4 +1,4 @@
-//! Types, values and sets, with their order.
+//! Types, values and sets, with the order of values and the canonical text.
 #![tactic(auto)]
 
 mod copies;
@@ -16,3 +16,6 @@ pub use text::{
 };
 pub use ty::{BoxedTy, Fields, Ty};
 pub use value::{BoxedValue, Set, Value, ValueFields};
+
+#[cfg(test)]
+mod tests;

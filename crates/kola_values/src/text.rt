@@ -144,12 +144,18 @@ pub fn push_value(out: &mut Vec<u8>, v: &Value) -> Result<(), Memory>
             push_fields(out, fields.as_slice())?;
             push_bytes(out, b")")
         }
-        Value::Set(set) => {
-            push_bytes(out, b"{")?;
-            push_members(out, set.as_slice())?;
-            push_bytes(out, b"}")
-        }
+        Value::Set(set) => push_set(out, set),
     }
+}
+
+/// Adds the canonical text of a set.
+#[cycle(push_value)]
+pub fn push_set(out: &mut Vec<u8>, set: &Set) -> Result<(), Memory>
+    ensures { OnOk result (out.new.items ≡ out.old.items ++ value_spelling (VSet (of_items set.now))) }
+{
+    push_bytes(out, b"{")?;
+    push_members(out, set.as_slice())?;
+    push_bytes(out, b"}")
 }
 
 #[cycle(push_value)]
@@ -165,15 +171,6 @@ fn push_members(out: &mut Vec<u8>, members: &[Value]) -> Result<(), Memory>
         push_value(out, member)?;
     }
     Ok(())
-}
-
-/// Adds the canonical text of a set.
-pub fn push_set(out: &mut Vec<u8>, set: &Set) -> Result<(), Memory>
-    ensures { OnOk result (out.new.items ≡ out.old.items ++ value_spelling (VSet (of_items set.now))) }
-{
-    push_bytes(out, b"{")?;
-    push_members(out, set.as_slice())?;
-    push_bytes(out, b"}")
 }
 
 #[cycle(push_value)]

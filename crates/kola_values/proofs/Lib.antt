@@ -7,3 +7,4 @@ pub mod Keeping
 pub mod Making
 pub mod Merging
 pub mod Texts
+mod Examples

@@ -1,4 +1,4 @@
-//! Types, values and sets, with their order.
+//! Types, values and sets, with the order of values and the canonical text.
 #![tactic(auto)]
 
 mod copies;
@@ -12,7 +12,11 @@ mod value;
 pub use laws::{equal_types_are_the_same, values_are_totally_ordered};
 pub use order::cmp_values;
 pub use text::{
-    push_bytes, push_int, push_number, push_set, push_text, push_type, push_value, type_text, value_text,
+    push_bytes, push_int, push_number, push_set, push_text, push_type, push_value, type_text,
+    value_text,
 };
 pub use ty::{BoxedTy, Fields, Ty};
 pub use value::{BoxedValue, Set, Value, ValueFields};
+
+#[cfg(test)]
+mod tests;

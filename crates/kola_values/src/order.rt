@@ -1,7 +1,7 @@
 //! The total order of values.
 ghost use Rattle.std.specs.Prelude.{◌≡◌};
 ghost use Rattle.kola_values.specs.Values.{of_items, of_fields};
-ghost use Rattle.kola_values.specs.Order.{cmp, cmp_members, cmp_fields, rank};
+ghost use Rattle.kola_values.specs.Order.{cmp, cmp_members, cmp_fields, rank, same};
 ghost use Rattle.kola_values.specs.Views.{value_tree};
 
 use crate::{Set, Value, ValueFields};
@@ -72,4 +72,13 @@ fn cmp_entries(a: &ValueFields, b: &ValueFields) -> Ordering
         }
     }
     fs.len().cmp(&gs.len())
+}
+
+impl Value {
+    /// Whether two values are the same.
+    pub fn is(&self, other: &Value) -> bool
+        ensures { result ≡ same (value_tree self.now) (value_tree other.now) }
+    {
+        cmp_values(self, other).is_eq()
+    }
 }

@@ -10,7 +10,8 @@ use std::alloc::Global;
 use std::cmp::Ordering;
 
 impl Set {
-    /// The set of the values of a list, which may stand in any order and repeat. A value that stands twice is kept once.
+    /// The set of the values of a list, which may stand in any order and repeat: a value that stands twice is kept once. The list is
+    /// sorted where it stands, so that its members are neither copied nor moved to other memory.
     pub fn from_members(alloc: Global, members: Vec<Value>) -> Result<Set, Memory>
         ensures { IfOk result (λ s. s ≡ canon (map value_tree members.items)) }
     {

@@ -12,7 +12,8 @@ use itoa::Buffer;
 use kola_core::{Memory, Name};
 use std::alloc::Global;
 
-/// The canonical text of a value. A value of a query has no `Unit` and no pair; the text of these is that of terms.
+/// The canonical text of a value, which follows from the value alone, whatever its type `t`. A query has no value of type `unit` and
+/// no pair: they print as `unit` and as `[a, b]`.
 pub fn value_text(alloc: Global, v: &Value, t: &Ty) -> Result<Vec<u8>, Memory>
     ensures { IfOk result (λ text. text.items ≡ value_spelling (value_tree v.now)) }
 {
@@ -21,7 +22,7 @@ pub fn value_text(alloc: Global, v: &Value, t: &Ty) -> Result<Vec<u8>, Memory>
     Ok(out)
 }
 
-/// The text of a query's type.
+/// The text of a type. A query has no type `unit`, no pair and no type variable: they print as `unit`, as `(T, U)` and as their name.
 pub fn type_text(alloc: Global, t: &Ty) -> Result<Vec<u8>, Memory>
     ensures { IfOk result (λ text. text.items ≡ type_spelling (type_tree t.now)) }
 {
@@ -143,12 +144,18 @@ pub fn push_value(out: &mut Vec<u8>, v: &Value) -> Result<(), Memory>
             push_fields(out, fields.as_slice())?;
             push_bytes(out, b")")
         }
-        Value::Set(set) => {
-            push_bytes(out, b"{")?;
-            push_members(out, set.as_slice())?;
-            push_bytes(out, b"}")
-        }
+        Value::Set(set) => push_set(out, set),
     }
+}
+
+/// Adds the canonical text of a set.
+#[cycle(push_value)]
+pub fn push_set(out: &mut Vec<u8>, set: &Set) -> Result<(), Memory>
+    ensures { OnOk result (out.new.items ≡ out.old.items ++ value_spelling (VSet (of_items set.now))) }
+{
+    push_bytes(out, b"{")?;
+    push_members(out, set.as_slice())?;
+    push_bytes(out, b"}")
 }
 
 #[cycle(push_value)]
@@ -164,15 +171,6 @@ fn push_members(out: &mut Vec<u8>, members: &[Value]) -> Result<(), Memory>
         push_value(out, member)?;
     }
     Ok(())
-}
-
-/// Adds the canonical text of a set.
-pub fn push_set(out: &mut Vec<u8>, set: &Set) -> Result<(), Memory>
-    ensures { OnOk result (out.new.items ≡ out.old.items ++ value_spelling (VSet (of_items set.now))) }
-{
-    push_bytes(out, b"{")?;
-    push_members(out, set.as_slice())?;
-    push_bytes(out, b"}")
 }
 
 #[cycle(push_value)]

@@ -5,12 +5,13 @@ use Rattle.kola_base.specs.declared.reading.ReadAllFault.TheVariants.{TooLong}
 use Rattle.kola_base.specs.ReadToEnd.{AnswersTo}
 use Rattle.kola_top.specs.declared.words.Action.{Action}
 use Rattle.kola_top.specs.declared.words.Action.TheVariants.{Run}
+use Rattle.kola_top.specs.declared.section.Span.{Span}
 use Rattle.kola_top.specs.declared.section.Sections.{Sections}
 use Rattle.kola_top.specs.declared.status.Status.{Status}
 use Rattle.kola_top.specs.declared.status.Status.TheVariants as statuses
 use Rattle.kola_top.specs.Words.{action_of}
 use Rattle.kola_top.specs.FaultLines.{usage_line, too_long_line}
-use Rattle.kola_top.specs.Answer.{greatest_length, RunAnswer, missing, not_built, report, ActionAnswer, Answer, usage, too_long, layout, in_layout}
+use Rattle.kola_top.specs.Answer.{greatest_length, text_at, QueryAnswer, AnswerAt, RunAnswer, not_built, report, ActionAnswer, Answer, usage, too_long, layout, in_layout}
 use Rattle.kola_top.specs.Runs.{Tells, Wrote, Completes, Sent, whole, front, is_written}
 use Rattle.kola_top.proofs.AnswerLaws.{one_answer}
 
@@ -47,10 +48,16 @@ silent before after m n due _ bytes written (whole sent) (inr e) = let wrong : I
 silent before after m n due _ bytes written (front k proper sent rose) (inl e) = cc
 silent before after m n due _ bytes written (front k proper sent rose) (inr e) = cc
 
+text_usage : (text : List ℕ) (s : Status) (b : List ℕ) → QueryAnswer text s b → s ≡ statuses.Usage → ⊥
+text_usage text _ _ (not_built h) u = cc
+text_usage text _ _ (report f h) u = cc
+
+place_usage : (job : List ℕ) (n : ℕ) (o : Option Span) (s : Status) (b : List ℕ) → AnswerAt job n o s b → s ≡ statuses.Usage → ⊥
+place_usage job n None s b h u = let wrong : statuses.Layout ≡ statuses.Usage = sym h.0 ∙ u in cc
+place_usage job n (Some p) s b h u = text_usage (text_at job p) s b h u
+
 run_usage : (job : List ℕ) (found : Sections) (s : Status) (b : List ℕ) → RunAnswer job found s b → s ≡ statuses.Usage → ⊥
-run_usage job found _ _ (missing e) u = cc
-run_usage job found _ _ (not_built p e h) u = cc
-run_usage job found _ _ (report p f e h) u = cc
+run_usage job found s b h u = place_usage job found.lines found.query s b h u
 
 action_usage : (a : Action) (job : List ℕ) (found : Sections) (s : Status) (b : List ℕ) → ActionAnswer a job found s b → s ≡ statuses.Usage → ⊥
 action_usage Run = run_usage

@@ -7,4 +7,7 @@ pub mod Keeping
 pub mod Making
 pub mod Merging
 pub mod Texts
+pub mod EncodingOrder
+pub mod EncodingInverse
 mod Examples
+mod EncodingExamples

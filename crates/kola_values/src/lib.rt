@@ -2,6 +2,7 @@
 #![tactic(auto)]
 
 mod copies;
+mod encoding;
 mod laws;
 mod order;
 mod set;
@@ -9,6 +10,9 @@ mod text;
 mod ty;
 mod value;
 
+pub use encoding::{
+    encode_type, encoding_goes_through_sets, encoding_has_an_inverse, encoding_keeps_order,
+};
 pub use laws::{equal_types_are_the_same, values_are_totally_ordered};
 pub use order::cmp_values;
 pub use text::{

@@ -9,5 +9,6 @@ pub mod Merging
 pub mod Texts
 pub mod EncodingOrder
 pub mod EncodingInverse
+pub mod EncodingLoops
 mod Examples
 mod EncodingExamples

@@ -1,14 +1,15 @@
 //! The encoding of structs as pairs nested to the right, and its inverse by a type.
 ghost use Rattle.std.specs.Prelude.{◌≡◌, List, map, IfOk};
-ghost use Rattle.kola_values.specs.Values.{ValueTree};
+ghost use Rattle.kola_values.specs.Values.{ValueTree, of_fields};
 ghost use Rattle.kola_values.specs.Types.{TypeTree, of_type_fields};
 ghost use Rattle.kola_values.specs.Order.{cmp};
 ghost use Rattle.kola_values.specs.Sets.{Each, set_of};
 ghost use Rattle.kola_values.specs.Databases.{Objects, HasType};
-ghost use Rattle.kola_values.specs.Encoding.{enc, enc_type, enc_field_types, dec, Shaped};
-ghost use Rattle.kola_values.specs.Views.{type_tree, type_entry};
+ghost use Rattle.kola_values.specs.WellFormed.{WellFormed};
+ghost use Rattle.kola_values.specs.Encoding.{enc, enc_fields, enc_type, enc_field_types, dec, Shaped};
+ghost use Rattle.kola_values.specs.Views.{type_tree, type_entry, value_tree, value_entry};
 
-use crate::{BoxedTy, Ty};
+use crate::{Set, Ty, Value};
 use kola_core::{Memory, Name};
 use std::alloc::Global;
 
@@ -40,13 +41,73 @@ fn encode_field_types(alloc: Global, fields: &[(Name, Ty)]) -> Result<Ty, Memory
         return Ok(Ty::Unit);
     }
     left -= 1;
-    let mut encoded = encode_type(alloc, &fields[left].1)?;
+    let mut all = encode_type(alloc, &fields[left].1)?;
     while left > 0 {
         left -= 1;
         let first = encode_type(alloc, &fields[left].1)?;
-        encoded = Ty::pair_of(alloc, first, encoded)?;
+        all = Ty::pair_of(alloc, first, all)?;
     }
-    Ok(encoded)
+    Ok(all)
+}
+
+/// The encoding of a value of a type: a struct of one field is that field's value, and one of more is the pair of the first field's value and
+/// of the rest; sets are encoded member by member. `Memory` is the only error. The type is not read: it says what the value is.
+pub fn encode(alloc: Global, v: &Value, t: &Ty) -> Result<Value, Memory>
+    requires { Shaped (value_tree v.now) (type_tree t.now) }
+    ensures { IfOk result (λ e. value_tree e ≡ enc (value_tree v.now)) }
+{
+    v.well_formed();
+    encoded(alloc, v)
+}
+
+#[cycle(encoded)]
+fn encoded(alloc: Global, v: &Value) -> Result<Value, Memory>
+    requires { WellFormed (enc (value_tree v.now)) }
+    ensures { IfOk result (λ e. value_tree e ≡ enc (value_tree v.now)) }
+{
+    match v {
+        Value::Pair(a, b) => {
+            Value::pair_of(alloc, encoded(alloc, a.get())?, encoded(alloc, b.get())?)
+        }
+        Value::Struct(fields) => encoded_fields(alloc, fields.as_slice()),
+        Value::Set(set) => {
+            let members = encoded_members(alloc, set.as_slice())?;
+            Ok(Value::Set(Set::from_rising(members)))
+        }
+        _ => v.copy(),
+    }
+}
+
+// From the last field to the first, so that the pairs nest to the right.
+#[cycle(encoded)]
+fn encoded_fields(alloc: Global, fields: &[(Name, Value)]) -> Result<Value, Memory>
+    requires { WellFormed (enc_fields (of_fields (map value_entry fields.now))) }
+    ensures { IfOk result (λ e. value_tree e ≡ enc_fields (of_fields (map value_entry fields.now))) }
+{
+    let mut left = fields.len();
+    if left == 0 {
+        return Ok(Value::Unit);
+    }
+    left -= 1;
+    let mut all = encoded(alloc, &fields[left].1)?;
+    while left > 0 {
+        left -= 1;
+        let first = encoded(alloc, &fields[left].1)?;
+        all = Value::pair_of(alloc, first, all)?;
+    }
+    Ok(all)
+}
+
+#[cycle(encoded)]
+fn encoded_members(alloc: Global, members: &[Value]) -> Result<Vec<Value>, Memory>
+    requires { Each WellFormed (map enc (map value_tree members.now)) }
+    ensures { IfOk result (λ r. map value_tree r.items ≡ map enc (map value_tree members.now)) }
+{
+    let mut all = Vec::new(alloc);
+    for member in members {
+        all.push(encoded(alloc, member)?)?;
+    }
+    Ok(all)
 }
 
 /// The encoding keeps the order of the values of one type, and so their sets rise as before; two of them with one encoding are the same.

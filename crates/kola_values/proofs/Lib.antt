@@ -10,5 +10,6 @@ pub mod Texts
 pub mod EncodingOrder
 pub mod EncodingInverse
 pub mod EncodingLoops
+pub mod EncodingBack
 mod Examples
 mod EncodingExamples

@@ -5,11 +5,11 @@ ghost use Rattle.kola_values.specs.Types.{TypeTree, of_type_fields};
 ghost use Rattle.kola_values.specs.Order.{cmp};
 ghost use Rattle.kola_values.specs.Sets.{Each, set_of};
 ghost use Rattle.kola_values.specs.Databases.{Objects, HasType};
-ghost use Rattle.kola_values.specs.WellFormed.{WellFormed};
-ghost use Rattle.kola_values.specs.Encoding.{enc, enc_fields, enc_type, enc_field_types, dec, Shaped};
+ghost use Rattle.kola_values.specs.WellFormed.{WellFormed, WellFormedFields};
+ghost use Rattle.kola_values.specs.Encoding.{enc, enc_fields, enc_type, enc_field_types, dec, dec_fields, Shaped};
 ghost use Rattle.kola_values.specs.Views.{type_tree, type_entry, value_tree, value_entry};
 
-use crate::{Set, Ty, Value};
+use crate::{Set, Ty, Value, ValueFields};
 use kola_core::{Memory, Name};
 use std::alloc::Global;
 
@@ -106,6 +106,79 @@ fn encoded_members(alloc: Global, members: &[Value]) -> Result<Vec<Value>, Memor
     let mut all = Vec::new(alloc);
     for member in members {
         all.push(encoded(alloc, member)?)?;
+    }
+    Ok(all)
+}
+
+/// The value of a type whose encoding is `v`: pairs become the structs that the type has there, with its labels. There is one such value.
+/// `Memory` is the only error.
+pub fn decode_by(alloc: Global, v: &Value, t: &Ty) -> Result<Value, Memory>
+    requires { Shaped (value_tree v.now) (enc_type (type_tree t.now)) }
+    ensures { IfOk result (λ w. (enc (value_tree w) ≡ value_tree v.now) × Shaped (value_tree w) (type_tree t.now)) }
+{
+    v.well_formed();
+    decoded(alloc, v, t)
+}
+
+#[cycle(decoded)]
+fn decoded(alloc: Global, v: &Value, t: &Ty) -> Result<Value, Memory>
+    requires { WellFormed (dec (type_tree t.now) (value_tree v.now)) }
+    ensures { IfOk result (λ w. value_tree w ≡ dec (type_tree t.now) (value_tree v.now)) }
+{
+    match (t, v) {
+        (Ty::Pair(t, u), Value::Pair(a, b)) => Value::pair_of(
+            alloc,
+            decoded(alloc, a.get(), t.get())?,
+            decoded(alloc, b.get(), u.get())?,
+        ),
+        (Ty::Struct(types), _) => Ok(Value::Struct(decoded_fields(alloc, v, types.as_slice())?)),
+        (Ty::Set(t), Value::Set(set)) => {
+            let members = decoded_members(alloc, set.as_slice(), t.get())?;
+            Ok(Value::Set(Set::from_rising(members)))
+        }
+        _ => v.copy(),
+    }
+}
+
+#[cycle(decoded)]
+fn decoded_fields(alloc: Global, v: &Value, types: &[(Name, Ty)]) -> Result<ValueFields, Memory>
+    requires { WellFormedFields (dec_fields (of_type_fields (map type_entry types.now)) (value_tree v.now)) }
+    ensures { IfOk result (λ fs. of_fields fs ≡ dec_fields (of_type_fields (map type_entry types.now)) (value_tree v.now)) }
+{
+    let mut fields = ValueFields::new(alloc);
+    let mut rest = v;
+    let mut done = 0;
+    while done + 1 < types.len() {
+        let Value::Pair(first, others) = rest else {
+            return Ok(fields);
+        };
+        fields.push(decoded_field(alloc, first.get(), &types[done])?)?;
+        rest = others.get();
+        done += 1;
+    }
+    if done == types.len() {
+        return Ok(fields);
+    }
+    fields.push(decoded_field(alloc, rest, &types[done])?)?;
+    Ok(fields)
+}
+
+#[cycle(decoded)]
+fn decoded_field(alloc: Global, v: &Value, field: &(Name, Ty)) -> Result<(Name, Value), Memory>
+    requires { WellFormed (dec (type_tree field.now.1) (value_tree v.now)) }
+    ensures { IfOk result (λ f. value_entry f ≡ (field.now.0, dec (type_tree field.now.1) (value_tree v.now))) }
+{
+    Ok((field.0.copy()?, decoded(alloc, v, &field.1)?))
+}
+
+#[cycle(decoded)]
+fn decoded_members(alloc: Global, members: &[Value], t: &Ty) -> Result<Vec<Value>, Memory>
+    requires { Each WellFormed (map (dec (type_tree t.now)) (map value_tree members.now)) }
+    ensures { IfOk result (λ r. map value_tree r.items ≡ map (dec (type_tree t.now)) (map value_tree members.now)) }
+{
+    let mut all = Vec::new(alloc);
+    for member in members {
+        all.push(decoded(alloc, member, t)?)?;
     }
     Ok(all)
 }

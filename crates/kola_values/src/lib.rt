@@ -11,7 +11,7 @@ mod ty;
 mod value;
 
 pub use encoding::{
-    encode, encode_type, encoding_goes_through_sets, encoding_has_an_inverse, encoding_keeps_order,
+    decode_by, encode, encode_type, encoding_goes_through_sets, encoding_has_an_inverse, encoding_keeps_order,
 };
 pub use laws::{equal_types_are_the_same, values_are_totally_ordered};
 pub use order::cmp_values;

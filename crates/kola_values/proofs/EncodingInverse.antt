@@ -87,10 +87,11 @@ shaped_back t (v ∷ vs) h = (h.0.1, shaped_back t vs h.1)
 set_back : (t : TypeTree) (vs : MemberValues) → Rising (items vs) → Each (λ v. (enc (dec t v) ≡ v) × Shaped (dec t v) t) (items vs) → (enc (dec (TSet t) (VSet vs)) ≡ VSet vs) × Shaped (dec (TSet t) (VSet vs)) (TSet t)
 set_back t vs r h =
     let e = encoded_back t (items vs) h in
-    let k = shaped_back t (items vs) h in
-    (ap VSet (enc_members-of_items (map (λ v. dec t v) (items vs)) ∙ (ap of_items e ∙ of_items-items vs)),
-     subst (λ l. Rising l × Each (λ v. Shaped v t) l) (sym (items-of_items (map (λ v. dec t v) (items vs))))
-     (rising_from_enc t (map (λ v. dec t v) (items vs)) k (subst Rising (sym e) r), k))
+    let k = shaped_back t (items vs) h in (
+      ap VSet (enc_members-of_items (map (λ v. dec t v) (items vs)) ∙ (ap of_items e ∙ of_items-items vs)),
+      subst (λ l. Rising l × Each (λ v. Shaped v t) l) (sym (items-of_items (map (λ v. dec t v) (items vs))))
+          (rising_from_enc t (map (λ v. dec t v) (items vs)) k (subst Rising (sym e) r), k),
+    )
 
 pair_back : (l : List ℕ) (t : TypeTree) (m : List ℕ) (u : TypeTree) (fs : FieldTypes) (a b : ValueTree) → (enc (dec t a) ≡ a) × Shaped (dec t a) t → (enc_fields (dec_fields (TField m u fs) b) ≡ b) × ShapedFields (dec_fields (TField m u fs) b) (TField m u fs) → (enc_fields (VField l (dec t a) (dec_fields (TField m u fs) b)) ≡ VPair a b) × ShapedFields (VField l (dec t a) (dec_fields (TField m u fs) b)) (TField l t (TField m u fs))
 pair_back l t m u fs a b p q = at (dec_fields (TField m u fs) b) q

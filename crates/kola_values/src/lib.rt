@@ -11,7 +11,8 @@ mod ty;
 mod value;
 
 pub use encoding::{
-    decode_by, encode, encode_type, encoding_goes_through_sets, encoding_has_an_inverse, encoding_keeps_order,
+    decode_by, encode, encode_type, encoding_goes_through_sets, encoding_has_an_inverse,
+    encoding_keeps_order,
 };
 pub use laws::{equal_types_are_the_same, values_are_totally_ordered};
 pub use order::cmp_values;
@@ -22,5 +23,7 @@ pub use text::{
 pub use ty::{BoxedTy, Fields, Ty};
 pub use value::{BoxedValue, Set, Value, ValueFields};
 
+#[cfg(test)]
+mod encoding_tests;
 #[cfg(test)]
 mod tests;

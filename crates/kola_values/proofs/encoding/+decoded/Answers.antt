@@ -63,11 +63,12 @@ decoded_fields-loop-done-preserved t c =
     let r = ap value_tree c.in-Pair.is in
     let step = ap (λ v. dec_fields (of_type_fields (drop i us)) v) r ∙ one_more_decoded c.args.types.now us i x refl c.in-Pair.first c.in-Pair.others (omega arith) c.index-types-done.is in
     let w = subst WellFormedFields step c.loop-done.invariant.2 in
-    let f = c.in_ok-decoded_field.ensures ∙ ap (λ v. (x.0, dec (type_tree x.1) v)) c.get.ensures in
-    (omega arith,
-     ap₂ (λ l v. l ++ fields (dec_fields (of_type_fields (drop (i + 1) us)) v)) (c.in_ok-push.ensures.ok ∙ ap (λ g. c.loop-done.fields ++ g ∷ []) f) c.get-rest.ensures
-     ∙ field_done c.loop-done.fields x.0 (dec (type_tree x.1) c.in-Pair.first) _ (dec_fields (of_type_fields (drop (i + 1) us)) c.in-Pair.others) all step c.loop-done.invariant.1,
-     subst (λ v. WellFormedFields (dec_fields (of_type_fields (drop (i + 1) us)) v)) (sym c.get-rest.ensures) w.1)
+    let f = c.in_ok-decoded_field.ensures ∙ ap (λ v. (x.0, dec (type_tree x.1) v)) c.get.ensures in (
+      omega arith,
+      ap₂ (λ l v. l ++ fields (dec_fields (of_type_fields (drop (i + 1) us)) v)) (c.in_ok-push.ensures.ok ∙ ap (λ g. c.loop-done.fields ++ g ∷ []) f) c.get-rest.ensures
+          ∙ field_done c.loop-done.fields x.0 (dec (type_tree x.1) c.in-Pair.first) _ (dec_fields (of_type_fields (drop (i + 1) us)) c.in-Pair.others) all step c.loop-done.invariant.1,
+      subst (λ v. WellFormedFields (dec_fields (of_type_fields (drop (i + 1) us)) v)) (sym c.get-rest.ensures) w.1,
+    )
 
 pub decoded_fields-returns-then-done-types : goal.decoded_fields-returns-then-done-types
 decoded_fields-returns-then-done-types t c =
@@ -96,7 +97,7 @@ decoded_fields-returns t c =
     let step = last_decoded c.args.types.now us i x refl v (omega (arith, c.loop-done.invariant.0)) c.index-types-done-2.is in
     all_done c.push-2.new.self VEnd all refl
     (ap (λ l. l ++ []) (c.in_ok-push-2.ensures.ok ∙ ap (λ g. c.loop-done.fields ++ g ∷ []) c.in_ok-decoded_field-2.ensures)
-     ∙ field_done c.loop-done.fields x.0 (dec (type_tree x.1) v) _ VEnd all step c.loop-done.invariant.1)
+    ∙ field_done c.loop-done.fields x.0 (dec (type_tree x.1) v) _ VEnd all step c.loop-done.invariant.1)
 
 pub decoded_members-decoded-requires : goal.decoded_members-decoded-requires
 decoded_members-decoded-requires t c =

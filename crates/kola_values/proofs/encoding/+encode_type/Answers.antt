@@ -22,11 +22,12 @@ encode_field_types-encode_type-requires-in-loop-left t c =
 pub encode_field_types-loop-left-preserved : goal.encode_field_types-loop-left-preserved
 encode_field_types-loop-left-preserved t c =
     let us = map type_entry c.args.fields.now in
-    let n : c.loop-left.left - 1 + 1 ≡ c.loop-left.left = omega arith in
-    (omega (arith, c.loop-left.invariant.0),
-     c.in_ok-all-2.ensures
-     ∙ ap₂ TPair (c.in_ok-first.ensures ∙ sym (ap (λ f. enc_type (type_tree f.1)) c.index-fields-left-in-loop-left.is)) (c.loop-left.invariant.1 ∙ ap (λ i. enc_field_types (of_type_fields (drop i us))) (sym n))
-     ∙ sym (one_more_type c.args.fields.now us (c.loop-left.left - 1) c.index-fields-left-in-loop-left.result refl (omega (arith, c.loop-left.invariant.0)) c.index-fields-left-in-loop-left.is))
+    let n : c.loop-left.left - 1 + 1 ≡ c.loop-left.left = omega arith in (
+      omega (arith, c.loop-left.invariant.0),
+      c.in_ok-all-2.ensures
+          ∙ ap₂ TPair (c.in_ok-first.ensures ∙ sym (ap (λ f. enc_type (type_tree f.1)) c.index-fields-left-in-loop-left.is)) (c.loop-left.invariant.1 ∙ ap (λ i. enc_field_types (of_type_fields (drop i us))) (sym n))
+          ∙ sym (one_more_type c.args.fields.now us (c.loop-left.left - 1) c.index-fields-left-in-loop-left.result refl (omega (arith, c.loop-left.invariant.0)) c.index-fields-left-in-loop-left.is),
+    )
 
 pub encode_field_types-returns : goal.encode_field_types-returns
 encode_field_types-returns t c =

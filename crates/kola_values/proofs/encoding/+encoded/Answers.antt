@@ -52,11 +52,12 @@ pub encoded_fields-loop-left-preserved : goal.encoded_fields-loop-left-preserved
 encoded_fields-loop-left-preserved t c =
     let us = map value_entry c.args.fields.now in
     let is = c.index-fields-left-in-loop-left.is in
-    let n : c.loop-left.left - 1 + 1 ≡ c.loop-left.left = omega arith in
-    (omega (arith, c.loop-left.invariant.0),
-     c.in_ok-all-2.ensures
-     ∙ ap₂ VPair (c.in_ok-first.ensures ∙ sym (ap (λ f. enc (value_tree f.1)) is)) (c.loop-left.invariant.1 ∙ ap (λ i. enc_fields (of_fields (drop i us))) (sym n))
-     ∙ sym (one_more_value c.args.fields.now us (c.loop-left.left - 1) c.index-fields-left-in-loop-left.result refl (omega (arith, c.loop-left.invariant.0)) is))
+    let n : c.loop-left.left - 1 + 1 ≡ c.loop-left.left = omega arith in (
+      omega (arith, c.loop-left.invariant.0),
+      c.in_ok-all-2.ensures
+          ∙ ap₂ VPair (c.in_ok-first.ensures ∙ sym (ap (λ f. enc (value_tree f.1)) is)) (c.loop-left.invariant.1 ∙ ap (λ i. enc_fields (of_fields (drop i us))) (sym n))
+          ∙ sym (one_more_value c.args.fields.now us (c.loop-left.left - 1) c.index-fields-left-in-loop-left.result refl (omega (arith, c.loop-left.invariant.0)) is),
+    )
 
 pub encoded_fields-returns : goal.encoded_fields-returns
 encoded_fields-returns t c =

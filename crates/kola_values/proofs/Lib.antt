@@ -7,4 +7,9 @@ pub mod Keeping
 pub mod Making
 pub mod Merging
 pub mod Texts
+pub mod EncodingOrder
+pub mod EncodingInverse
+pub mod EncodingLoops
+pub mod EncodingBack
 mod Examples
+mod EncodingExamples

@@ -2,6 +2,7 @@
 #![tactic(auto)]
 
 mod copies;
+mod encoding;
 mod laws;
 mod order;
 mod set;
@@ -9,6 +10,10 @@ mod text;
 mod ty;
 mod value;
 
+pub use encoding::{
+    decode_by, encode, encode_type, encoding_goes_through_sets, encoding_has_an_inverse,
+    encoding_keeps_order,
+};
 pub use laws::{equal_types_are_the_same, values_are_totally_ordered};
 pub use order::cmp_values;
 pub use text::{
@@ -18,5 +23,7 @@ pub use text::{
 pub use ty::{BoxedTy, Fields, Ty};
 pub use value::{BoxedValue, Set, Value, ValueFields};
 
+#[cfg(test)]
+mod encoding_tests;
 #[cfg(test)]
 mod tests;

@@ -7,4 +7,5 @@ pub mod Keeping
 pub mod Making
 pub mod Merging
 pub mod Texts
+pub mod Schemas
 mod Examples

@@ -39,7 +39,7 @@ is_stored_type cs (TStruct fs) = false
 -- a key is a non-empty list of attributes of these names
 abbrev pub is_key : List (List ℕ) → List (List ℕ) → Bool
 is_key attributes [] = false
-is_key attributes (a ∷ more_names) = is_listed a attributes && list_all (λ b. is_listed b attributes) more_names
+is_key attributes (a ∷ more_names) = list_all (λ n. is_listed n attributes) (a ∷ more_names)
 
 -- a class is well formed beside the classes of these names: its attributes are distinct and of stored types, its keys are keys
 abbrev pub is_class : List (List ℕ) → Class → Bool

@@ -12,7 +12,7 @@ mod value;
 
 pub use laws::{equal_types_are_the_same, values_are_totally_ordered};
 pub use order::cmp_values;
-pub use schema::{ClassDef, Keys, Schema};
+pub use schema::{ClassDef, Keys, Schema, classes_ok};
 pub use text::{
     push_bytes, push_int, push_number, push_set, push_text, push_type, push_value, type_text,
     value_text,

@@ -1,9 +1,9 @@
 -- What the program's walks over classes and attributes compute.
-use Rattle.std.proofs.Common.{◌≡◌, ℕ, ◌+◌, ◌<◌, ◌≤◌, Bool, true, false, not, ◌&&◌, ◌||◌, List, [], ◌∷◌, Option, Some, None, length, get_or, map, drop, refl, sym, ap, ◌∙◌, arith, cond}
+use Rattle.std.proofs.Common.{◌≡◌, ℕ, ◌+◌, ◌<◌, ◌≤◌, Bool, true, false, not, ◌&&◌, ◌||◌, List, [], ◌∷◌, Option, Some, None, length, get_or, map, take, drop, ◌-◌, refl, sym, ap, ◌∙◌, arith, cond}
 use Rattle.std.specs.List.{list_any, list_all, find}
 use Rattle.std.specs.Option.{option_map, option_and_then}
 use Rattle.std.specs.Str.{bytes_eq}
-use Rattle.std.proofs.lemmas.List.{drop_more, drop_all}
+use Rattle.std.proofs.lemmas.List.{drop_more, take_all, length-drop}
 use Rattle.std.proofs.lemmas.List.Folds.{list_all-map}
 use Rattle.kola_core.specs.declared.name.Name.{Name}
 use Rattle.kola_values.specs.Types.{TypeTree}
@@ -14,27 +14,35 @@ use Rattle.kola_values.specs.SchemaViews.{class_tree}
 use Rattle.kola_values.specs.declared.ty.Ty.{Ty}
 use Rattle.kola_values.specs.declared.schema.ClassDef.{ClassDef}
 
+rest_taken : {X : Type 0} (xs : List X) (i : ℕ) → take (length xs - i) (drop i xs) ≡ drop i xs
+rest_taken xs i = take_all (length xs - i) (drop i xs) (omega (arith, length-drop i xs))
+
+-- three tests, one after the other
+pub all_three : (a b c : Bool) → a ≡ true → b ≡ true → c ≡ (a && (b && c))
+all_three a b c p q = rw (p, q)
+
+pub not_the_second : (a b c : Bool) → a ≡ true → b ≡ false → false ≡ (a && (b && c))
+not_the_second a b c p q = rw (p, q)
+
 module _ {X : Type 0} (f : X → List ℕ) where
   pub listed_seen : (n : List ℕ) (xs : List X) → list_any (λ x. bytes_eq n (f x)) xs ≡ is_listed n (map f xs)
   listed_seen n [] = refl
   listed_seen n (x ∷ xs) = ap (λ b. bytes_eq n (f x) || b) (listed_seen n xs)
 
-  distinct_step : (xs : List X) (i : ℕ) (x : X) → i < length xs → x ≡ get_or xs i x → are_distinct (map f (drop i xs)) ≡ (not (list_any (λ y. bytes_eq (f x) (f y)) (drop (i + 1) xs)) && are_distinct (map f (drop (i + 1) xs)))
-  distinct_step xs i x p h =
-      ap (λ l. are_distinct (map f l)) (drop_more xs i x p ∙ (λ j. sym h j ∷ drop (i + 1) xs))
-      ∙ ap (λ b. not b && are_distinct (map f (drop (i + 1) xs))) (sym (listed_seen (f x) (drop (i + 1) xs)))
+  module _ (xs : List X) (i : ℕ) (d : X) (p : i < length xs) where
+    distinct_step : are_distinct (map f (drop i xs)) ≡ (not (list_any (λ y. bytes_eq (f (get_or xs i d)) (f y)) (take (length xs - (i + 1)) (drop (i + 1) xs))) && are_distinct (map f (drop (i + 1) xs)))
+    distinct_step =
+        ap (λ l. are_distinct (map f l)) (drop_more xs i d p)
+        ∙ ap (λ b. not b && are_distinct (map f (drop (i + 1) xs))) (sym (listed_seen (f (get_or xs i d)) (drop (i + 1) xs)))
+        ∙ ap (λ l. not (list_any (λ y. bytes_eq (f (get_or xs i d)) (f y)) l) && are_distinct (map f (drop (i + 1) xs))) (sym (rest_taken xs (i + 1)))
 
-  module _ (xs : List X) (i : ℕ) (x : X) (p : i < length xs) (h : x ≡ get_or xs i x) (e : are_distinct (map f (drop i xs)) ≡ are_distinct (map f xs)) where
     -- a name that stands not again
-    pub distinct_more : list_any (λ y. bytes_eq (f x) (f y)) (drop (i + 1) xs) ≡ false → are_distinct (map f (drop (i + 1) xs)) ≡ are_distinct (map f xs)
-    distinct_more k = (λ j. not (sym k j) && are_distinct (map f (drop (i + 1) xs))) ∙ sym (distinct_step xs i x p h) ∙ e
+    pub distinct_more : are_distinct (map f (drop i xs)) ≡ are_distinct (map f xs) → list_any (λ y. bytes_eq (f (get_or xs i d)) (f y)) (take (length xs - (i + 1)) (drop (i + 1) xs)) ≡ false → are_distinct (map f (drop (i + 1) xs)) ≡ are_distinct (map f xs)
+    distinct_more e k = (λ j. not (sym k j) && are_distinct (map f (drop (i + 1) xs))) ∙ sym distinct_step ∙ e
 
     -- a name that stands again
-    pub repeated : list_any (λ y. bytes_eq (f x) (f y)) (drop (i + 1) xs) ≡ true → are_distinct (map f xs) ≡ false
-    repeated k = sym e ∙ distinct_step xs i x p h ∙ (λ j. not (k j) && are_distinct (map f (drop (i + 1) xs)))
-
-  pub distinct_end : (xs : List X) (i : ℕ) → length xs ≤ i → are_distinct (map f (drop i xs)) ≡ are_distinct (map f xs) → are_distinct (map f xs) ≡ true
-  distinct_end xs i p e = sym e ∙ (λ j. are_distinct (map f (drop_all i xs p j)))
+    pub repeated : are_distinct (map f (drop i xs)) ≡ are_distinct (map f xs) → list_any (λ y. bytes_eq (f (get_or xs i d)) (f y)) (take (length xs - (i + 1)) (drop (i + 1) xs)) ≡ true → are_distinct (map f xs) ≡ false
+    repeated e k = sym e ∙ distinct_step ∙ (λ j. not (k j) && are_distinct (map f (drop (i + 1) xs)))
 
 pub class_names_seen : (cs : List ClassDef) → map (λ (c : ClassDef). c.name) cs ≡ class_names (map class_tree cs)
 class_names_seen [] = refl
@@ -68,11 +76,21 @@ class_seen cs k es e =
     let types = sym (list_all-map (λ (a : List ℕ × TypeTree). is_stored_type cs a.1) type_entry es) ∙ ap (list_all (λ (a : List ℕ × TypeTree). is_stored_type cs a.1)) e in
     λ j. are_distinct (names j) && (types j && list_all (is_key (names j)) k.keys)
 
+pub repeated_attribute : (cs : List (List ℕ)) (k : Class) (es : List (Name × Ty)) → map type_entry es ≡ k.attributes → are_distinct (names_of es) ≡ false → false ≡ is_class cs k
+repeated_attribute cs k es e p =
+    (λ j. sym p j && (list_all (λ (a : Name × Ty). is_stored_type cs (type_tree a.1)) es && list_all (is_key (names_of es)) k.keys))
+    ∙ class_seen cs k es e
+
 pub schema_seen : (cs : List ClassDef) →
     (are_distinct (map (λ (c : ClassDef). c.name) cs) && (are_distinct (map (λ (c : ClassDef). c.extent) cs) && list_all (λ (c : ClassDef). is_class (class_names (map class_tree cs)) (class_tree c)) cs)) ≡ is_schema (map class_tree cs)
 schema_seen cs =
     let each = sym (list_all-map (is_class (class_names (map class_tree cs))) class_tree cs) in
     λ j. are_distinct (class_names_seen cs j) && (are_distinct (extent_names_seen cs j) && each j)
+
+pub repeated_class : (cs : List ClassDef) → are_distinct (map (λ (c : ClassDef). c.name) cs) ≡ false → false ≡ is_schema (map class_tree cs)
+repeated_class cs p =
+    (λ j. sym p j && (are_distinct (map (λ (c : ClassDef). c.extent) cs) && list_all (λ (c : ClassDef). is_class (class_names (map class_tree cs)) (class_tree c)) cs))
+    ∙ schema_seen cs
 
 -- ---- look-ups
 

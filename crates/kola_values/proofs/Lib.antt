@@ -9,3 +9,4 @@ pub mod Merging
 pub mod Texts
 pub mod Schemas
 mod Examples
+mod SchemaExamples

@@ -22,3 +22,5 @@ pub use value::{BoxedValue, Set, Value, ValueFields};
 
 #[cfg(test)]
 mod tests;
+#[cfg(test)]
+mod schema_tests;

@@ -196,6 +196,13 @@ impl Schema {
         Ok(Schema { classes })
     }
 
+    /// What every schema keeps: its classes pass the test of `classes_ok`. It does nothing else.
+    pub fn well_formed(&self)
+        ensures { is_schema self.now ≡ true }
+    {
+        let _classes = &self.classes;
+    }
+
     /// The class at place `n` in the schema's order, counted from 0; `None` past the end.
     pub fn class_at(&self, n: usize) -> Option<&ClassDef>
         ensures { option_map class_at result ≡ slice_get self.now n }

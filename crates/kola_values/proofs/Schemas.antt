@@ -1,5 +1,5 @@
 -- What the program's walks over classes and attributes compute.
-use Rattle.std.proofs.Common.{◌≡◌, ℕ, ◌+◌, ◌<◌, ◌≤◌, Bool, true, false, not, ◌&&◌, ◌||◌, List, [], ◌∷◌, Option, Some, None, length, get_or, map, take, drop, ◌-◌, refl, sym, ap, ◌∙◌, arith, cond}
+use Rattle.std.proofs.Common.{◌≡◌, ℕ, ◌+◌, ◌<◌, Bool, true, false, not, ◌&&◌, ◌||◌, List, [], ◌∷◌, Option, Some, length, get_or, map, take, drop, ◌-◌, refl, sym, ap, ◌∙◌, arith, cond}
 use Rattle.std.specs.List.{list_any, list_all, find}
 use Rattle.std.specs.Option.{option_map, option_and_then}
 use Rattle.std.specs.Str.{bytes_eq}
@@ -8,7 +8,7 @@ use Rattle.std.proofs.lemmas.List.Folds.{list_all-map}
 use Rattle.kola_core.specs.declared.name.Name.{Name}
 use Rattle.kola_values.specs.Types.{TypeTree}
 use Rattle.kola_values.specs.Databases.{Class, Classes, attribute_type, extent_class, look_up}
-use Rattle.kola_values.specs.Schemas.{is_listed, are_distinct, names_of, class_names, extent_names, is_stored_type, is_key, is_class, is_schema, class_named, extent_named, key_at}
+use Rattle.kola_values.specs.Schemas.{is_listed, are_distinct, names_of, class_names, extent_names, is_stored_type, is_key, is_class, is_schema, class_named}
 use Rattle.kola_values.specs.Views.{type_tree, type_entry}
 use Rattle.kola_values.specs.SchemaViews.{class_tree}
 use Rattle.kola_values.specs.declared.ty.Ty.{Ty}

@@ -1,5 +1,4 @@
 -- The plain record of a class that the program holds.
-use Rattle.std.specs.Prelude.{List}
 use Rattle.std.specs.Borrow.{Bor}
 use Rattle.kola_values.specs.Databases.{Class}
 use Rattle.kola_values.specs.Types.{TypeTree}

@@ -21,6 +21,6 @@ pub use ty::{BoxedTy, Fields, Ty};
 pub use value::{BoxedValue, Set, Value, ValueFields};
 
 #[cfg(test)]
-mod tests;
-#[cfg(test)]
 mod schema_tests;
+#[cfg(test)]
+mod tests;

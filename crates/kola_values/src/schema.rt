@@ -139,9 +139,7 @@ fn are_classes(classes: &[ClassDef]) -> bool
 pub fn classes_ok(classes: &[ClassDef]) -> bool
     ensures { result ≡ is_schema (map class_tree classes.now) }
 {
-    class_names_are_distinct(classes)
-        && extent_names_are_distinct(classes)
-        && are_classes(classes)
+    class_names_are_distinct(classes) && extent_names_are_distinct(classes) && are_classes(classes)
 }
 
 /// Schemas, which contracts see as their list of classes.

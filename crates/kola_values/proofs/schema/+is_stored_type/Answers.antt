@@ -1,4 +1,4 @@
-use Rattle.std.proofs.Common.{◌∙◌, ap, sym, rules}
+use Rattle.std.proofs.Common.{rules}
 use Rattle.kola_values.proofs.Schemas.{class_listed}
 use Rattle.kola_values.proofs.schema.+is_stored_type.Goals as goal
 

@@ -1,4 +1,4 @@
-use Rattle.std.proofs.Common.{sym, ◌∙◌, rules}
+use Rattle.std.proofs.Common.{sym, ◌∙◌}
 use Rattle.kola_core.specs.declared.name.Name.{Name}
 use Rattle.kola_values.specs.declared.ty.Ty.{Ty}
 use Rattle.kola_values.proofs.Schemas.{distinct_more, repeated}

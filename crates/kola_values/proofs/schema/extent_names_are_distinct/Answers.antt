@@ -1,4 +1,4 @@
-use Rattle.std.proofs.Common.{sym, ◌∙◌, rules}
+use Rattle.std.proofs.Common.{sym, ◌∙◌}
 use Rattle.kola_values.specs.declared.schema.ClassDef.{ClassDef}
 use Rattle.kola_values.proofs.Schemas.{distinct_more, repeated}
 use Rattle.kola_values.proofs.schema.extent_names_are_distinct.Goals as goal

@@ -1,4 +1,4 @@
-use Rattle.std.proofs.Common.{◌∙◌, ap, sym, rules}
+use Rattle.std.proofs.Common.{rules}
 use Rattle.kola_values.proofs.Schemas.{key_seen}
 use Rattle.kola_values.proofs.schema.is_key.Goals as goal
 

@@ -13,3 +13,5 @@ pub mod EncodingLoops
 pub mod EncodingBack
 mod Examples
 mod EncodingExamples
+pub mod Schemas
+mod SchemaExamples

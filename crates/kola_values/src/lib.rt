@@ -5,6 +5,7 @@ mod copies;
 mod encoding;
 mod laws;
 mod order;
+mod schema;
 mod set;
 mod text;
 mod ty;
@@ -16,6 +17,7 @@ pub use encoding::{
 };
 pub use laws::{equal_types_are_the_same, values_are_totally_ordered};
 pub use order::cmp_values;
+pub use schema::{ClassDef, Keys, Schema, classes_ok};
 pub use text::{
     push_bytes, push_int, push_number, push_set, push_text, push_type, push_value, type_text,
     value_text,
@@ -25,5 +27,7 @@ pub use value::{BoxedValue, Set, Value, ValueFields};
 
 #[cfg(test)]
 mod encoding_tests;
+#[cfg(test)]
+mod schema_tests;
 #[cfg(test)]
 mod tests;

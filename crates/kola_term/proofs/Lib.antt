@@ -2,3 +2,12 @@ pub mod Sample
 mod Examples
 mod LiteralLoop
 mod SetConstants
+pub mod Inversions
+pub mod Introductions
+pub mod Attributes
+pub mod Sound
+pub mod Congruent
+pub mod Paths
+pub mod Kept
+pub mod Faulty
+pub mod Unique

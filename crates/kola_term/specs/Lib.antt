@@ -2,4 +2,8 @@ pub mod Terms
 pub mod Literals
 pub mod Meaning
 pub mod Visits
+pub mod Typing
+pub mod Places
+pub mod Faults
+pub mod Agreement
 pub mod TermView

@@ -2,8 +2,14 @@
 #![tactic(auto)]
 
 mod constant;
+mod laws;
 pub mod make;
 mod term;
 
 pub use constant::{Const, LitSet};
+pub use laws::{
+    a_term_is_fine_or_has_one_first_fault, equal_parts_keep_the_value,
+    parts_of_one_type_keep_the_type, typed_functions_keep_types,
+    typed_terms_are_typed_at_each_place,
+};
 pub use term::{Fun, Pred, Term};

@@ -14,4 +14,5 @@ pub mod EncodingBack
 mod Examples
 mod EncodingExamples
 pub mod Schemas
+pub mod NameTests
 mod SchemaExamples

@@ -6,6 +6,7 @@ mod encoding;
 mod laws;
 mod order;
 mod schema;
+mod schema_laws;
 mod set;
 mod text;
 mod ty;
@@ -18,6 +19,7 @@ pub use encoding::{
 pub use laws::{equal_types_are_the_same, values_are_totally_ordered};
 pub use order::cmp_values;
 pub use schema::{ClassDef, Keys, Schema, classes_ok};
+pub use schema_laws::tests_of_names_are_exact;
 pub use text::{
     push_bytes, push_int, push_number, push_set, push_text, push_type, push_value, type_text,
     value_text,
@@ -25,8 +27,6 @@ pub use text::{
 pub use ty::{BoxedTy, Fields, Ty};
 pub use value::{BoxedValue, Set, Value, ValueFields};
 
-#[cfg(test)]
-mod encoding_tests;
 #[cfg(test)]
 mod schema_tests;
 #[cfg(test)]

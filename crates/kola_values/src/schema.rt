@@ -47,7 +47,6 @@ fn has_attribute(entries: &[(Name, Ty)], name: &Name) -> bool
     entries.iter().any(|entry| name.is(&entry.0))
 }
 
-// No class has the name of a later one.
 fn class_names_are_distinct(classes: &[ClassDef]) -> bool
     ensures { result ≡ are_distinct (map (λ c. c.name) classes.now) }
 {
@@ -135,14 +134,15 @@ fn are_classes(classes: &[ClassDef]) -> bool
 
 /// Whether the classes make a schema: no two have one name, no two have one extent, attribute names are distinct within a class, every
 /// attribute type is built of `Int`, `Str`, `Bool`, sets and classes of the list, and every key is a non-empty list of attributes of its
-/// class. A class and an extent may share a name. It takes no memory, and time by the square of the number of classes.
+/// class. A class and an extent may share a name. It takes no memory: it compares each name with each other, in time by the square of the
+/// number of classes and of the attributes of a class, which are few.
 pub fn classes_ok(classes: &[ClassDef]) -> bool
     ensures { result ≡ is_schema (map class_tree classes.now) }
 {
     class_names_are_distinct(classes) && extent_names_are_distinct(classes) && are_classes(classes)
 }
 
-/// Schemas, which contracts see as their list of classes.
+/// A schema: classes that pass the test of `classes_ok`. Contracts see it as their list.
 #[derive(Drop)]
 pub struct Schema {
     classes: Vec<ClassDef>,
@@ -185,7 +185,7 @@ fn entry_by_name<'a>(entries: &'a [(Name, Ty)], name: &Name) -> Option<&'a (Name
 }
 
 impl Schema {
-    /// The schema of these classes, in their order.
+    /// The schema of these classes, in their order. They must pass the test of `classes_ok`.
     pub fn make(alloc: Global, classes: Vec<ClassDef>) -> Result<Schema, Memory>
         requires { is_schema (map class_tree classes.items) ≡ true }
         ensures { IfOk result (λ s. s ≡ map class_tree classes.items) }

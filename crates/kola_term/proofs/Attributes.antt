@@ -2,7 +2,7 @@
 use Rattle.std.proofs.Common.{◌≡◌, ℕ, ℤ, pos, negsuc, Bool, true, false, cond, ◌&&◌, Option, Some, None, refl, sym, subst, option_map, true≢false, List, [], ◌∷◌, map, filter, int_le, ◌≤ℤ◌, arith, ◌||◌}
 use Rattle.std.proofs.lemmas.Int.{ints}
 use Rattle.kola_values.specs.Values.{ValueTree, VInt, VBool, VStr, VObj}
-use Rattle.kola_values.specs.Types.{TypeTree, TInt, TBool, TStr, TClass, TSet, same_type}
+use Rattle.kola_values.specs.Types.{TypeTree, TInt, TBool, TStr, TClass, TSet}
 use Rattle.std.specs.Str.{bytes_eq}
 use Rattle.kola_values.specs.Order.{same}
 use Rattle.kola_values.specs.Sets.{any, has, Each, set_of}
@@ -14,7 +14,7 @@ use Rattle.kola_term.specs.Terms.{ConstTree, CInt, CBool, CStr, CSet, CExtent, C
 use Rattle.kola_term.specs.Literals.{in_64, literal_type, is_literal_of, each_literal, rises_from, set_type_of, set_type}
 use Rattle.kola_term.specs.Meaning.{constant, extent_objects}
 use Rattle.kola_term.specs.Typing.{const_type}
-use Rattle.kola_term.proofs.Inversions.{and_true, same_name-equal, same_ty-equal, if_some, some_same}
+use Rattle.kola_term.proofs.Inversions.{and_true, same_name-equal, if_some, some_same}
 
 -- ---- attributes
 

@@ -1,5 +1,5 @@
 -- The first fault of typing a term, as a relation.
-use Rattle.std.specs.Prelude.{ℕ, suc, ◌+◌, nat_le, Bool, true, false, cond, List, [], ◌∷◌, ◌++◌, Option, Some, None, option_and_then, Result, Ok, Err, ◌≡◌}
+use Rattle.std.specs.Prelude.{ℕ, suc, nat_le, Bool, true, false, cond, List, [], ◌∷◌, ◌++◌, Option, Some, None, option_and_then, Result, Ok, Err, ◌≡◌}
 use Rattle.kola_values.specs.Types.{TypeTree, TBool, TClass, TSet, TPair, same_type, type_nodes}
 use Rattle.kola_values.specs.Databases.{Classes, attribute_type, extent_class, look_up}
 use Rattle.kola_term.specs.Literals.{in_64, set_type}

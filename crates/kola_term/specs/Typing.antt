@@ -1,5 +1,5 @@
 -- The output type of a function at an input type, and whether a predicate is typed there.
-use Rattle.std.specs.Prelude.{ℕ, Bool, true, false, cond, ◌&&◌, List, [], ◌∷◌, Option, Some, None, option_and_then, option_map, int_le, pos, negsuc}
+use Rattle.std.specs.Prelude.{ℕ, Bool, true, false, cond, ◌&&◌, List, Option, Some, None, option_and_then, option_map}
 use Rattle.kola_values.specs.Types.{TypeTree, TInt, TStr, TBool, TClass, TSet, TPair, same_type}
 use Rattle.kola_values.specs.Databases.{Classes, attribute_type, extent_class, look_up}
 use Rattle.kola_term.specs.Literals.{in_64, set_type}

@@ -35,4 +35,4 @@ pub record Meets (S : Classes) (d : Objects) : Type 0 where
   pub distinct : NoneTwice (object_values d)
   pub fits : Each (FitsClass S d) d
   pub keys : (c : List ℕ) (n : ℕ) (key : List (List ℕ)) (v w : ValueTree) → key_at S c n ≡ Some key
-    → HasType d v (TClass c) → HasType d w (TClass c) → agree_on d key v w ≡ true → v ≡ w
+      → HasType d v (TClass c) → HasType d w (TClass c) → agree_on d key v w ≡ true → v ≡ w

@@ -13,3 +13,4 @@ pub mod FormReader
 pub mod FormViews
 pub mod ReportViews
 pub mod Runs
+pub mod Causes

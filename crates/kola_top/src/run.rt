@@ -5,6 +5,7 @@ ghost use Rattle.std.specs.Io.KnownBytes.{IsAtEnd};
 ghost use Rattle.std.specs.String.{string_bytes};
 ghost use Rattle.kola_base.specs.Causes.{Rose};
 ghost use Rattle.kola_top.specs.Answer.{Answer};
+ghost use Rattle.kola_top.specs.Causes.{IsTooLong, HasNoLayout, HasNoQuery};
 ghost use Rattle.kola_top.specs.Runs.{Tells, Completes, Sent, is_written};
 ghost use Rattle.kola_top.specs.declared.status.Status.{Status};
 ghost use Rattle.kola_top.specs.Words.{action_of};
@@ -27,6 +28,40 @@ fn write_answer<K: Sink>(sink: &mut K, status: Status, bytes: &[u8]) -> Status
     match write_all(sink, bytes) {
         Ok(()) => status,
         Err(_) => Status::WriteFault,
+    }
+}
+
+/// Reads the job that the words ask for and writes its answer.
+fn run_command<S: Source, K: Sink>(
+    alloc: Global,
+    words: &[String],
+    source: &mut S,
+    sink: &mut K,
+) -> Status
+    ensures usage { action_of (map string_bytes words.now) ≡ None → (result ≡ Status.Usage) ⊎ (result ≡ Status.WriteFault) }
+    ensures usage_only { result ≡ Status.Usage → action_of (map string_bytes words.now) ≡ None }
+    ensures unread { action_of (map string_bytes words.now) ≡ None → S.left source.new ≡ S.left source.old }
+    ensures read_fault { result ≡ Status.ReadFault → Rose (S.faults source.old) (S.faults source.new) }
+    ensures write_fault { result ≡ Status.WriteFault → Rose (K.faults sink.old) (K.faults sink.new) }
+    ensures silent { (result ≡ Status.ReadFault) ⊎ (result ≡ Status.Memory) → K.written sink.new ≡ K.written sink.old }
+    ensures answer { IfSome (S.left source.old) (λ job.
+        Tells (map string_bytes words.now) job (K.written sink.old) (K.written sink.new) result) }
+    ensures complete { IfSome (S.left source.old) (λ job. (status : Status) (bytes : List ℕ) →
+        Answer (map string_bytes words.now) job status bytes →
+        Completes status (S.faults source.old) (S.faults source.new) (K.faults sink.old) (K.faults sink.new) result) }
+    ensures to_the_end { result ≡ Status.Ok → IsAtEnd (S.left source.new) }
+{
+    let Some(action) = action_of(words) else {
+        return write_answer(sink, Status::Usage, usage_line());
+    };
+    match read_all(alloc, source, GREATEST_LENGTH) {
+        Ok(job) => match answer_to(alloc, action, &job) {
+            Ok(Reply { status, bytes }) => write_answer(sink, status, &bytes),
+            Err(_) => Status::Memory,
+        },
+        Err(ReadAllFault::TooLong) => write_answer(sink, Status::TooLong, too_long_line()),
+        Err(ReadAllFault::Read) => Status::ReadFault,
+        Err(ReadAllFault::Memory) => Status::Memory,
     }
 }
 
@@ -59,17 +94,11 @@ pub fn run_kola<S: Source, K: Sink>(
         Answer (map string_bytes words.now) job status bytes →
         Completes status (S.faults source.old) (S.faults source.new) (K.faults sink.old) (K.faults sink.new) result) }
     ensures to_the_end { result ≡ Status.Ok → IsAtEnd (S.left source.new) }
+
+    // Of a source that tells its bytes, each refusal comes only where its cause does; `complete` says that it comes there.
+    ensures too_long { IfSome (S.left source.old) (λ job. result ≡ Status.TooLong → IsTooLong (map string_bytes words.now) job) }
+    ensures layout { IfSome (S.left source.old) (λ job. result ≡ Status.Layout → HasNoLayout (map string_bytes words.now) job) }
+    ensures query { IfSome (S.left source.old) (λ job. result ≡ Status.Query → HasNoQuery (map string_bytes words.now) job) }
 {
-    let Some(action) = action_of(words) else {
-        return write_answer(sink, Status::Usage, usage_line());
-    };
-    match read_all(alloc, source, GREATEST_LENGTH) {
-        Ok(job) => match answer_to(alloc, action, &job) {
-            Ok(Reply { status, bytes }) => write_answer(sink, status, &bytes),
-            Err(_) => Status::Memory,
-        },
-        Err(ReadAllFault::TooLong) => write_answer(sink, Status::TooLong, too_long_line()),
-        Err(ReadAllFault::Read) => Status::ReadFault,
-        Err(ReadAllFault::Memory) => Status::Memory,
-    }
+    run_command(alloc, words, source, sink)
 }

@@ -2,7 +2,7 @@ use Rattle.std.proofs.Common.{map, refl, sym}
 use Rattle.std.specs.String.{string_bytes}
 use Rattle.kola_top.specs.declared.status.Status.TheVariants as statuses
 use Rattle.kola_top.proofs.RunLaws.{silent, usage_only, all_tell, all_complete, all_usage, all_long, all_too_long, all_replied}
-use Rattle.kola_top.proofs.run.run_kola.Goals as goal
+use Rattle.kola_top.proofs.run.run_command.Goals as goal
 
 pub returns-in_default-clause-answer : goal.returns-in_default-clause-answer
 returns-in_default-clause-answer g c =

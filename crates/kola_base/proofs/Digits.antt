@@ -14,7 +14,8 @@ use Rattle.kola_base.specs.declared.class.Class.{Class}
 use Rattle.kola_base.specs.declared.class.Class.TheVariants.{Digit, Minus, Other}
 use Rattle.kola_base.specs.declared.scan.Sort.TheVariants as sorts
 use Rattle.kola_base.specs.Pieces.{first_class, tests, class, goes_on, between, shape, piece}
-use Rattle.kola_base.specs.Numbers.{decimal, number_value, in_range}
+use Rattle.kola_base.specs.Numbers.{decimal, number_value}
+use Rattle.kola_core.specs.Integers.{in_64}
 
 -- ---- the byte of a class
 
@@ -112,25 +113,25 @@ number_text bs e = elim (written bs e) [
 
 -- ---- the range
 
-pos_in : (n : ℕ) → n < 9223372036854775808 → in_range (pos n) ≡ true
+pos_in : (n : ℕ) → n < 9223372036854775808 → in_64 (pos n) ≡ true
 pos_in n h = le-leb n 9223372036854775807 (omega (arith, h))
 
-pos_out : (n : ℕ) → (n < 9223372036854775808 → ⊥) → in_range (pos n) ≡ false
+pos_out : (n : ℕ) → (n < 9223372036854775808 → ⊥) → in_64 (pos n) ≡ false
 pos_out n h = lt-leb n 9223372036854775807 (omega arith)
 
-neg_in : (n : ℕ) → n ≤ 9223372036854775808 → in_range (neg_ℤ (pos n)) ≡ true
+neg_in : (n : ℕ) → n ≤ 9223372036854775808 → in_64 (neg_ℤ (pos n)) ≡ true
 neg_in zero h = refl
 neg_in (suc n) h = ap (λ q. q && true) (le-leb n 9223372036854775807 (omega (arith, h)))
 
-neg_out : (n : ℕ) → (n ≤ 9223372036854775808 → ⊥) → in_range (neg_ℤ (pos n)) ≡ false
+neg_out : (n : ℕ) → (n ≤ 9223372036854775808 → ⊥) → in_64 (neg_ℤ (pos n)) ≡ false
 neg_out zero h = absurd (h (omega arith))
 neg_out (suc n) h = ap (λ q. q && true) (lt-leb n 9223372036854775807 (omega arith))
 
 -- what is read is the value where that is in range, and nothing else is read
 abbrev IsRead : ℤ → {E : Type 0} → Result ℤ E → Type 0
-IsRead v r = MatchOption (result_ok r) (in_range v ≡ false) (λ z. (in_range v ≡ true) × (z ≡ v))
+IsRead v r = MatchOption (result_ok r) (in_64 v ≡ false) (λ z. (in_64 v ≡ true) × (z ≡ v))
 
-settled : {E : Type 0} (r : Result ℤ E) (P : Type 0) (v : ℤ) → OkIff r P v → (P → in_range v ≡ true) → ((P → ⊥) → in_range v ≡ false) → IsRead v r
+settled : {E : Type 0} (r : Result ℤ E) (P : Type 0) (v : ℤ) → OkIff r P v → (P → in_64 v ≡ true) → ((P → ⊥) → in_64 v ≡ false) → IsRead v r
 settled (Ok x) P v h f g = (f h.0, h.1)
 settled (Err e) P v h f g = g h
 

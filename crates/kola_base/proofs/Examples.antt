@@ -6,7 +6,8 @@ use Rattle.kola_base.specs.declared.class.Class.TheVariants.{Blank, LineEnd, Let
 use Rattle.kola_base.specs.declared.scan.Sort.TheVariants as sorts
 use Rattle.kola_base.specs.declared.lex.Kind.TheVariants as kinds
 use Rattle.kola_base.specs.Pieces.{class, piece}
-use Rattle.kola_base.specs.Numbers.{number_value, in_range}
+use Rattle.kola_base.specs.Numbers.{number_value}
+use Rattle.kola_core.specs.Integers.{in_64}
 use Rattle.kola_base.specs.Tokens.{tokens_of, end_at}
 use Rattle.kola_base.specs.Lexemes.{LWord, LNumber, LSign, lexemes}
 
@@ -42,10 +43,10 @@ twelve = refl
 zero_twice : (number_value (codes "-0") ≡ pos 0) × (number_value (codes "0") ≡ pos 0)
 zero_twice = (refl, refl)
 
-ends : (in_range (number_value (codes "-9223372036854775808")) ≡ true) × (in_range (number_value (codes "9223372036854775807")) ≡ true)
+ends : (in_64 (number_value (codes "-9223372036854775808")) ≡ true) × (in_64 (number_value (codes "9223372036854775807")) ≡ true)
 ends = (refl, refl)
 
-past_ends : (in_range (number_value (codes "-9223372036854775809")) ≡ false) × (in_range (number_value (codes "9223372036854775808")) ≡ false)
+past_ends : (in_64 (number_value (codes "-9223372036854775809")) ≡ false) × (in_64 (number_value (codes "9223372036854775808")) ≡ false)
 past_ends = (refl, refl)
 
 -- ---- tokens and what they say

@@ -9,7 +9,8 @@ use Rattle.kola_base.specs.declared.scan.Sort.TheVariants as sorts
 use Rattle.kola_base.specs.declared.lex.Token.{Token}
 use Rattle.kola_base.specs.declared.lex.LexWhy.{LexWhy}
 use Rattle.kola_base.specs.declared.lex.LexWhy.TheVariants.{BadByte, NumberTooLarge}
-use Rattle.kola_base.specs.Numbers.{number_value, in_range}
+use Rattle.kola_base.specs.Numbers.{number_value}
+use Rattle.kola_core.specs.Integers.{in_64}
 use Rattle.kola_base.specs.Pieces.{class, shape, piece, IsLongest}
 use Rattle.kola_base.specs.Tokens.{IsSound, Cuts, tokens_of, end_at, AreTokens, IsStuck, StopsAt}
 
@@ -64,7 +65,7 @@ has_byte s (suc n) text a = omega arith
 
 -- ---- a fault, or none
 
-sound_number : (s : Sort) (bs : List ℕ) → s ≡ sorts.Number → IsSound s bs → in_range (number_value bs) ≡ true
+sound_number : (s : Sort) (bs : List ℕ) → s ≡ sorts.Number → IsSound s bs → in_64 (number_value bs) ≡ true
 sound_number s bs e h = let P : Sort → Type 0 = λ r. IsSound r bs in subst P e h
 
 -- where a sound piece stands, nothing is at fault
@@ -72,7 +73,7 @@ not_stuck : (s : Sort) (n : ℕ) (text : List ℕ) (y : LexWhy) → IsLongest s 
 not_stuck s n text BadByte a r h = h.1 s n a.within a.is
 not_stuck s n text NumberTooLarge a r h =
     let same = one_length s sorts.Number n h.0 text a h.1 in
-    let there : in_range (number_value (take n text)) ≡ false = ap (λ k. in_range (number_value (take k text))) same ∙ h.2 in
+    let there : in_64 (number_value (take n text)) ≡ false = ap (λ k. in_64 (number_value (take k text))) same ∙ h.2 in
     let number = one_sort s sorts.Number (take n text) a.is (subst (λ k. piece sorts.Number (take k text) ≡ true) (sym same) h.1.is) in
     let here = sound_number s (take n text) number r in
     absurd cc

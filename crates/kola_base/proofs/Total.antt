@@ -7,7 +7,8 @@ use Rattle.kola_base.specs.declared.scan.Sort.TheVariants as sorts
 use Rattle.kola_base.specs.declared.lex.Token.{Token}
 use Rattle.kola_base.specs.declared.lex.LexWhy.{LexWhy}
 use Rattle.kola_base.specs.declared.lex.LexWhy.TheVariants.{BadByte, NumberTooLarge}
-use Rattle.kola_base.specs.Numbers.{number_value, in_range}
+use Rattle.kola_base.specs.Numbers.{number_value}
+use Rattle.kola_core.specs.Integers.{in_64}
 use Rattle.kola_base.specs.Pieces.{class, IsLongest, NoPiece}
 use Rattle.kola_base.specs.Scanning.{first_piece}
 use Rattle.kola_base.specs.Tokens.{IsSound, Cuts, tokens_of, end_at, AreTokens, IsStuck, StopsAt}
@@ -26,12 +27,12 @@ first text s n l h o = elim o [
   | inr x ↦ inr ((s, n) ∷ x.0, x.1, x.2, (l, h, x.3), x.4)
 ]
 
-number_next : (text : List ℕ) (n : ℕ) (q : Bool) → in_range (number_value (take n text)) ≡ q → IsLongest sorts.Number n text → Outcome (drop n text) → Outcome text
+number_next : (text : List ℕ) (n : ℕ) (q : Bool) → in_64 (number_value (take n text)) ≡ q → IsLongest sorts.Number n text → Outcome (drop n text) → Outcome text
 number_next text n true e l o = first text sorts.Number n l e o
 number_next text n false e l o = inr ([], text, NumberTooLarge, refl, (n, l, e))
 
 sort_next : (text : List ℕ) (s : Sort) (n : ℕ) → IsLongest s n text → Outcome (drop n text) → Outcome text
-sort_next text sorts.Number n l o = number_next text n (in_range (number_value (take n text))) refl l o
+sort_next text sorts.Number n l o = number_next text n (in_64 (number_value (take n text))) refl l o
 sort_next text sorts.Blank n l o = first text sorts.Blank n l tt o
 sort_next text s n l o = first text s n l tt o
 

@@ -9,14 +9,15 @@ use Rattle.kola_base.specs.declared.lex.LexWhy.{LexWhy}
 use Rattle.kola_base.specs.declared.lex.LexWhy.TheVariants.{BadByte, OpenString, BadEscape, NumberTooLarge, NotUtf8}
 use Rattle.kola_base.specs.declared.lex.LexFault.{LexFault}
 use Rattle.kola_base.specs.declared.lex.LexFault.TheVariants.{At, Memory}
-use Rattle.kola_base.specs.Numbers.{number_value, in_range}
+use Rattle.kola_base.specs.Numbers.{number_value}
+use Rattle.kola_core.specs.Integers.{in_64}
 use Rattle.kola_base.specs.Pieces.{piece, IsLongest, NoPiece}
 
 -- ---- cuts
 
 -- a piece of the sort has no fault inside: a number is one of 64 bits
 abbrev pub IsSound : Sort → List ℕ → Type 0
-IsSound sorts.Number bs = in_range (number_value bs) ≡ true
+IsSound sorts.Number bs = in_64 (number_value bs) ≡ true
 IsSound _ bs = Unit {0}
 
 -- the text is these pieces, each of so many bytes and the longest one at its place, and then the rest
@@ -58,7 +59,7 @@ pub record AreTokens (ts : List Token) (text : List ℕ) : Type 0 where
 -- no piece stands at the front of the rest, or the one that does has a fault
 abbrev pub IsStuck : List ℕ → LexWhy → Type 0
 IsStuck rest BadByte = (0 < length rest) × NoPiece rest
-IsStuck rest NumberTooLarge = (n : ℕ) × IsLongest sorts.Number n rest × (in_range (number_value (take n rest)) ≡ false)
+IsStuck rest NumberTooLarge = (n : ℕ) × IsLongest sorts.Number n rest × (in_64 (number_value (take n rest)) ≡ false)
 IsStuck rest OpenString = ⊥
 IsStuck rest BadEscape = ⊥
 IsStuck rest NotUtf8 = ⊥
@@ -82,7 +83,7 @@ bytes_of text t = slice_range text t.from t.to
 
 abbrev pub IsOfKind : Kind → List ℕ → Type 0
 IsOfKind kinds.Word bs = piece sorts.Word bs ≡ true
-IsOfKind kinds.Number bs = (piece sorts.Number bs ≡ true) × (in_range (number_value bs) ≡ true)
+IsOfKind kinds.Number bs = (piece sorts.Number bs ≡ true) × (in_64 (number_value bs) ≡ true)
 IsOfKind kinds.Quoted bs = ⊥
 IsOfKind kinds.Sign bs = piece sorts.Sign bs ≡ true
 IsOfKind kinds.End bs = bs ≡ []

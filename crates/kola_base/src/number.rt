@@ -3,7 +3,8 @@
 ghost use Rattle.std.specs.Prelude.{◌≡◌, true, false, MatchOption};
 ghost use Rattle.kola_base.specs.declared.lex.Kind.TheVariants as kinds;
 ghost use Rattle.kola_base.specs.declared.scan.Sort.TheVariants.{Number};
-ghost use Rattle.kola_base.specs.Numbers.{in_range, number_value};
+ghost use Rattle.kola_base.specs.Numbers.{number_value};
+ghost use Rattle.kola_core.specs.Integers.{in_64};
 ghost use Rattle.kola_base.specs.Pieces.{piece};
 ghost use Rattle.kola_base.specs.Tokens.{bytes_of, IsTokenIn};
 
@@ -13,8 +14,8 @@ use crate::lex::Token;
 pub fn value_of(number: &[u8]) -> Option<i64>
     requires { piece Number number.now ≡ true }
     ensures { MatchOption result
-        (in_range (number_value number.now) ≡ false)
-        (λ z. (in_range (number_value number.now) ≡ true) × (z ≡ number_value number.now)) }
+        (in_64 (number_value number.now) ≡ false)
+        (λ z. (in_64 (number_value number.now) ≡ true) × (z ≡ number_value number.now)) }
 {
     match str::from_utf8(number) {
         Ok(text) => text.parse().ok(),

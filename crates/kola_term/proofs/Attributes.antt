@@ -11,7 +11,8 @@ use Rattle.kola_values.specs.Meets.{Meets, FitsClass}
 use Rattle.kola_values.proofs.Anys.{equal, each_has}
 use Rattle.kola_values.proofs.Each.{set_typed}
 use Rattle.kola_term.specs.Terms.{ConstTree, CInt, CBool, CStr, CSet, CExtent, CMeta}
-use Rattle.kola_term.specs.Literals.{in_64, literal_type, is_literal_of, each_literal, rises_from, set_type_of, set_type}
+use Rattle.kola_core.specs.Integers.{in_64}
+use Rattle.kola_term.specs.Literals.{literal_type, is_literal_of, each_literal, rises_from, set_type_of, set_type}
 use Rattle.kola_term.specs.Meaning.{constant, extent_objects}
 use Rattle.kola_term.specs.Typing.{const_type}
 use Rattle.kola_term.proofs.Inversions.{and_true, same_name-equal, if_some, some_same}

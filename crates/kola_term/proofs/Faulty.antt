@@ -3,7 +3,8 @@ use Rattle.std.proofs.Common.{◌≡◌, ℕ, zero, suc, Bool, true, false, cond
 use Rattle.kola_values.specs.Types.{TypeTree, TInt, TBool, TClass, TSet, TPair, same_type}
 use Rattle.kola_values.specs.Databases.{Classes, attribute_type, extent_class, look_up}
 use Rattle.kola_term.specs.Terms.{ConstTree, CInt, CBool, CStr, CSet, CExtent, CMeta, FunTree, FId, FFst, FSnd, FFlat, FUnion, FIsect, FMinus, FAttr, FComp, FPair, FTimes, FK, FC, FIf, FIterate, FIter, FJoin, FNest, FUnnest, FMeta, PredTree, PEq, PLt, PLe, PMember, PAt, PAnd, POr, PNot, PInv, PKP, PCP, PEx, PFa, PMeta, TermTree, TermF, TermP, TermC}
-use Rattle.kola_term.specs.Literals.{in_64, set_type}
+use Rattle.kola_core.specs.Integers.{in_64}
+use Rattle.kola_term.specs.Literals.{set_type}
 use Rattle.kola_term.specs.Typing.{MetaTree, MFun, MPred, Context, out, is_typed, const_type, first_type, second_type, member_type, twin_type, iter_type, one_of, const_of, fun_of, pred_of, is_some_type, the_if}
 use Rattle.kola_term.specs.Places.{children, inputs, nth, flatten, sub_at, place}
 use Rattle.kola_term.proofs.Inversions.{then_some, some_same, same_ty-equal}

@@ -3,7 +3,7 @@ use Rattle.std.proofs.Common.{◌≡◌, ℕ, true, false, ◌⊎◌, inl, inr, 
 use Rattle.kola_values.specs.Types.{TypeTree, TInt, TClass, TSet}
 use Rattle.kola_values.specs.Databases.{Classes, extent_class, look_up}
 use Rattle.kola_term.specs.Terms.{ConstTree, CInt, CBool, CStr, CSet, CExtent, CMeta, FunTree, FFst, FSnd, FFlat, FUnion, FIsect, FMinus, FAttr, FTimes, FIf, FIterate, FIter, FJoin, FNest, FUnnest, FMeta, PEq, PLt, PLe, PMember, PInv, PEx, PFa, PMeta, TermTree, TermF, TermP, TermC}
-use Rattle.kola_term.specs.Literals.{in_64}
+use Rattle.kola_core.specs.Integers.{in_64}
 use Rattle.kola_term.specs.Typing.{Context, out, is_typed, const_type, first_type, second_type, member_type, twin_type, iter_type, join_type, pair_of, one_of, nest_of, is_some_type, the_if}
 use Rattle.kola_term.specs.Places.{children, inputs, nth, flatten, sub_at, place, Typed}
 use Rattle.kola_term.proofs.Inversions.{then_some, some_same, map_some, if_some, pair_some, join_some, nest_some, when_true}

@@ -1,13 +1,10 @@
 -- Literals, and the sets of literals that may stand as constants: a member at least, all integers, all truth values or all strings, in strictly rising order.
-use Rattle.std.specs.Prelude.{ℤ, pos, negsuc, int_le, Bool, true, false, cond, ◌&&◌, List, [], ◌∷◌, Option, Some, None}
+use Rattle.std.specs.Prelude.{Bool, true, false, cond, ◌&&◌, List, [], ◌∷◌, Option, Some, None}
 use Rattle.std.specs.Ordering.{is_lt}
+use Rattle.kola_core.specs.Integers.{in_64}
 use Rattle.kola_values.specs.Values.{ValueTree, VInt, VBool, VStr}
 use Rattle.kola_values.specs.Order.{cmp}
 use Rattle.kola_values.specs.Types.{TypeTree, TInt, TBool, TStr, TSet}
-
--- a number of 64 bits
-abbrev pub in_64 : ℤ → Bool
-in_64 z = int_le (negsuc 9223372036854775807) z && int_le z (pos 9223372036854775807)
 
 -- the type that a literal's form has
 abbrev pub literal_type : ValueTree → Option TypeTree

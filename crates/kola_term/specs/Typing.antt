@@ -2,7 +2,8 @@
 use Rattle.std.specs.Prelude.{ℕ, Bool, true, false, cond, ◌&&◌, List, Option, Some, None, option_and_then, option_map}
 use Rattle.kola_values.specs.Types.{TypeTree, TInt, TStr, TBool, TClass, TSet, TPair, same_type}
 use Rattle.kola_values.specs.Databases.{Classes, attribute_type, extent_class, look_up}
-use Rattle.kola_term.specs.Literals.{in_64, set_type}
+use Rattle.kola_core.specs.Integers.{in_64}
+use Rattle.kola_term.specs.Literals.{set_type}
 use Rattle.kola_term.specs.Terms.{ConstTree, CInt, CBool, CStr, CSet, CExtent, CMeta, FunTree, FId, FFst, FSnd, FFlat, FUnion, FIsect, FMinus, FAttr, FComp, FPair, FTimes, FK, FC, FIf, FIterate, FIter, FJoin, FNest, FUnnest, FMeta, PredTree, PEq, PLt, PLe, PMember, PAt, PAnd, POr, PNot, PInv, PKP, PCP, PEx, PFa, PMeta}
 
 pub data MetaTree : Type 0 where

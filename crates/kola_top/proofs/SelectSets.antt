@@ -7,13 +7,13 @@ use Rattle.std.specs.Ordering.{is_lt}
 use Rattle.kola_core.proofs.Lists.{taken_more}
 use Rattle.kola_values.specs.Values.{ValueTree, VUnit, VInt, VBool, VStr, VObj, VPair, VStruct, VSet}
 use Rattle.kola_values.specs.Types.{TInt, TSet}
-use Rattle.kola_values.specs.Databases.{In64}
+use Rattle.kola_core.specs.Integers.{in_64, In64}
 use Rattle.kola_values.specs.Sets.{Rising, Each, canon, any}
 use Rattle.kola_values.specs.WellFormed.{WellFormed}
 use Rattle.kola_values.specs.Views.{value_tree}
 use Rattle.kola_values.specs.declared.value.Value.{Value}
 use Rattle.kola_values.proofs.Anys.{any_canon, any_map}
-use Rattle.kola_term.specs.Literals.{in_64, each_literal, rises_from, set_type}
+use Rattle.kola_term.specs.Literals.{each_literal, rises_from, set_type}
 
 -- one more number made a member
 pub made_more : (done : List Value) (ns : List ℤ) (i : ℕ) (n : ℤ) (y : Value) → map value_tree done ≡ take i (map VInt ns) → i < length ns → n ≡ get_or ns i n → value_tree y ≡ VInt n → map value_tree (done ++ y ∷ []) ≡ take (i + 1) (map VInt ns)

@@ -1,6 +1,7 @@
 -- Schemas and databases as lists, the values of a type in a database, and when a database meets a schema.
-use Rattle.std.specs.Prelude.{ℕ, ℤ, pos, negsuc, ◌≤ℤ◌, true, cond, List, [], ◌∷◌, Option, Some, None, ◌≡◌, map, filter}
+use Rattle.std.specs.Prelude.{ℕ, true, cond, List, [], ◌∷◌, Option, Some, None, ◌≡◌, map, filter}
 use Rattle.std.specs.Str.{bytes_eq}
+use Rattle.kola_core.specs.Integers.{In64}
 use Rattle.kola_values.specs.Values.{ValueTree, VUnit, VInt, VBool, VStr, VObj, VPair, VStruct, VSet, FieldValues, VEnd, VField, items}
 use Rattle.kola_values.specs.Order.{same}
 use Rattle.kola_values.specs.Types.{TypeTree, TInt, TStr, TBool, TUnit, TClass, TSet, TPair, TStruct, FieldTypes, TEnd, TField}
@@ -53,10 +54,6 @@ objects_of c d = map (λ (o : Object). VObj o.class o.id) (filter (λ (o : Objec
 abbrev pub attribute_of : List ℕ → Objects → ValueTree → ValueTree
 attribute_of a [] v = VUnit
 attribute_of a (o ∷ d) v = cond (same v (VObj o.class o.id)) (value_or_unit (look_up a o.values)) (attribute_of a d v)
-
--- a number of 64 bits
-abbrev pub In64 : ℤ → Type 0
-In64 z = (negsuc 9223372036854775807 ≤ℤ z) × (z ≤ℤ pos 9223372036854775807)
 
 abbrev mutual
   -- v is a value of the type in the database d

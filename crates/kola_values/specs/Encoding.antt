@@ -3,7 +3,7 @@ use Rattle.std.specs.Prelude.{ℕ, ℤ, List, [], ◌∷◌, ◌≡◌, map}
 use Rattle.kola_values.specs.Values.{ValueTree, VUnit, VInt, VBool, VStr, VObj, VPair, VStruct, VSet, MemberValues, VNone, VMore, FieldValues, VEnd, VField, items, of_items}
 use Rattle.kola_values.specs.Types.{TypeTree, TInt, TStr, TBool, TUnit, TClass, TVar, TSet, TPair, TStruct, FieldTypes, TEnd, TField}
 use Rattle.kola_values.specs.Sets.{Rising, Each}
-use Rattle.kola_values.specs.Databases.{In64}
+use Rattle.kola_core.specs.Integers.{In64}
 
 -- the first value alone where no field follows it, and paired with the rest otherwise
 abbrev pub joined : ValueTree → FieldValues → ValueTree → ValueTree

@@ -2,7 +2,7 @@
 use Rattle.std.specs.Prelude.{◌≤◌}
 use Rattle.kola_values.specs.Values.{ValueTree, VInt, VObj, VPair, VStruct, VSet, MemberValues, VNone, VMore, FieldValues, VEnd, VField, items}
 use Rattle.kola_values.specs.Sets.{Rising}
-use Rattle.kola_values.specs.Databases.{In64}
+use Rattle.kola_core.specs.Integers.{In64}
 
 abbrev mutual
   pub WellFormed : ValueTree → Type 0

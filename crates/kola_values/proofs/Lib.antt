@@ -13,6 +13,8 @@ pub mod EncodingLoops
 pub mod EncodingBack
 mod Examples
 mod EncodingExamples
+pub mod MeetingLoops
+pub mod MeetingTypes
 pub mod Schemas
 pub mod NameTests
 mod SchemaExamples

@@ -15,6 +15,7 @@ mod Examples
 mod EncodingExamples
 pub mod MeetingLoops
 pub mod MeetingTypes
+pub mod Meeting
 pub mod Schemas
 pub mod NameTests
 mod SchemaExamples

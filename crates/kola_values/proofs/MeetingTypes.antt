@@ -18,7 +18,7 @@ both_hold a b h k = rw (h, k)
 
 -- ---- the objects of a class
 
-abbrev class_part : (v : ValueTree) → List ℕ
+abbrev pub class_part : (v : ValueTree) → List ℕ
 class_part (VObj c i) = c
 class_part v = []
 

@@ -1,11 +1,12 @@
 -- The tests of a value against a type and of objects against a schema, as truth values.
-use Rattle.std.specs.Prelude.{ℕ, Bool, true, false, not, ltb, ◌&&◌, List, [], ◌∷◌, Option, Some, None}
+use Rattle.std.specs.Prelude.{ℕ, ◌≤◌, Bool, true, false, not, ltb, ◌&&◌, List, [], ◌∷◌, Option, Some, None}
 use Rattle.std.specs.List.{list_any, list_all}
 use Rattle.std.specs.Str.{bytes_eq}
 use Rattle.kola_values.specs.Values.{ValueTree, VUnit, VInt, VBool, VStr, VObj, VPair, VStruct, VSet, FieldValues, VEnd, VField, items}
 use Rattle.kola_values.specs.Types.{TypeTree, TInt, TStr, TBool, TUnit, TClass, TSet, TPair, TStruct, FieldTypes, TEnd, TField}
 use Rattle.kola_values.specs.Order.{same}
-use Rattle.kola_values.specs.Sets.{has}
+use Rattle.kola_values.specs.Sets.{Each, has}
+use Rattle.kola_values.specs.WellFormed.{WellFormed}
 use Rattle.kola_values.specs.Databases.{Class, Object, Classes, Objects, look_up, value_or_unit}
 use Rattle.kola_values.specs.Schemas.{is_listed, are_distinct, names_of, class_named}
 use Rattle.kola_values.specs.Meets.{object_values}
@@ -39,6 +40,10 @@ has_type d v t = typed_by (is_there d) v t
 -- whatever objects there are
 abbrev pub anything : List ℕ → ℕ → Bool
 anything c i = true
+
+-- an object as the program holds it: its values are well formed, its id has 32 bits
+abbrev pub IsHeld : Object → Type 0
+IsHeld o = Each (λ e. WellFormed e.1) o.values × (o.id ≤ 4294967295)
 
 -- no element is related to a later one
 abbrev pub no_two : {A : Type 0} → (A → A → Bool) → List A → Bool

@@ -4,6 +4,7 @@
 mod copies;
 mod encoding;
 mod laws;
+mod meets;
 mod object;
 mod objects;
 mod order;
@@ -19,6 +20,7 @@ pub use encoding::{
     encoding_keeps_order,
 };
 pub use laws::{equal_types_are_the_same, values_are_totally_ordered};
+pub use meets::objects_ok;
 pub use object::ObjectDef;
 pub use objects::shaped;
 pub use order::cmp_values;

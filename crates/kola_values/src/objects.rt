@@ -21,6 +21,7 @@ pub(crate) trait Holds {
 }
 
 // The objects of a list, which are looked for one by one.
+#[derive(Drop)]
 pub(crate) struct Listed<'a> {
     pub(crate) objects: &'a [ObjectDef],
 }
@@ -34,6 +35,7 @@ impl Holds for Listed<'_> {
 }
 
 // Any object.
+#[derive(Drop)]
 struct Anything;
 
 impl Holds for Anything {

@@ -19,3 +19,4 @@ pub mod Meeting
 pub mod Schemas
 pub mod NameTests
 mod SchemaExamples
+mod MeetExamples

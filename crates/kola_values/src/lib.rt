@@ -34,6 +34,8 @@ pub use ty::{BoxedTy, Fields, Ty};
 pub use value::{BoxedValue, Set, Value, ValueFields};
 
 #[cfg(test)]
+mod meets_tests;
+#[cfg(test)]
 mod schema_tests;
 #[cfg(test)]
 mod tests;

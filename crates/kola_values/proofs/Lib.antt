@@ -16,6 +16,9 @@ mod EncodingExamples
 pub mod MeetingLoops
 pub mod MeetingTypes
 pub mod Meeting
+pub mod Sorting
+pub mod KeyedObjects
+pub mod KeyLoops
 pub mod Schemas
 pub mod NameTests
 mod SchemaExamples

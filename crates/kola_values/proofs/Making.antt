@@ -78,12 +78,6 @@ made xs ys p h = one_list _ _ (deduped_rises ys h) (rising (map value_tree xs)) 
 
 -- ---- a binary search
 
-sorted_from : (xs : List Value) → Rising (map value_tree xs) → IsSortedBy (λ x y. is_lt (by_tree x y)) xs
-sorted_from [] r k d p q = absurd (omega arith)
-sorted_from (x ∷ []) r k d p q = absurd (omega arith)
-sorted_from (x ∷ (y ∷ ys)) r zero d p q = ap is_lt (cmp_total.antisymm (value_tree y) (value_tree x) ∙ ap ordering_reverse r.0)
-sorted_from (x ∷ (y ∷ ys)) r (suc k) d p q = rw add-one (rw add-one at (sorted_from (y ∷ ys) r.1 k d (omega arith) (omega arith)))
-
 not_same : (v w : ValueTree) → (cmp w v ≡ Equal → ⊥) → same v w ≡ false
 unfolding same
 not_same v w n = at (cmp v w) refl
@@ -93,33 +87,41 @@ not_same v w n = at (cmp v w) refl
     at Equal e = absurd (n (cmp_total.antisymm w v ∙ ap ordering_reverse e))
     at Greater e = refl
 
-has_at : (v : ValueTree) (xs : List Value) (k : ℕ) (d : Value) → k < length xs → cmp (value_tree (get_or xs k d)) v ≡ Equal → has v (map value_tree xs) ≡ true
-unfolding any
-has_at v [] k d p h = absurd (omega arith)
-has_at v (x ∷ xs) zero d p h = ap (λ b. b || has v (map value_tree xs)) (ap (same v) (exact (value_tree x) v h) ∙ same_itself v)
-has_at v (x ∷ xs) (suc k) d p h = ap (λ b. same v (value_tree x) || b) (has_at v xs k d (omega arith) h) ∙ or-true (same v (value_tree x))
-
-has_none : (v : ValueTree) (xs : List Value) → ((k : ℕ) (d : Value) → k < length xs → cmp (value_tree (get_or xs k d)) v ≡ Equal → ⊥) → has v (map value_tree xs) ≡ false
-unfolding any
-has_none v [] n = refl
-has_none v (x ∷ xs) n = ap (λ b. b || has v (map value_tree xs)) (not_same v (value_tree x) (n 0 x (omega arith))) ∙ has_none v xs (λ k d p. n (suc k) d (omega arith))
-
 less_unequal : (o : Ordering) → o ≡ Less → o ≡ Equal → ⊥
 less_unequal o e f = cc
 
 greater_unequal : (o : Ordering) → o ≡ Greater → o ≡ Equal → ⊥
 greater_unequal o e f = cc
 
--- what a binary search answers
-pub found : (v : ValueTree) (xs : List Value) (r : Result ℕ ℕ) → Rising (map value_tree xs) → IsSearchInRange r (length xs) → IsBinarySearchResult (λ x. cmp (value_tree x) v) xs r → is_ok r ≡ has v (map value_tree xs)
-found v xs (Ok i) rise p h = at xs refl p h
-  where
-    at : (ys : List Value) → ys ≡ xs → i < length xs → HoldsAt (λ x. cmp (value_tree x) v ≡ Equal) xs i → true ≡ has v (map value_tree xs)
-    at [] e p h = absurd (omega (arith, ap length e))
-    at (y ∷ ys) e p h = sym (has_at v xs i y p (h y))
-found v xs (Err i) rise p h =
-    let parts = h (searchable_from_sorted cmp_total value_tree xs v (sorted_from xs rise)) in
-    sym (has_none v xs (λ k d q e. ⊎_elim
-    (λ below. less_unequal _ (parts.0 k d (omega arith) below) e)
-    (λ from. greater_unequal _ (parts.1 k d from q) e)
-    (cases_lt k i)))
+-- in a list whose elements are found by a value of each
+module _ {X : Type 0} (key : X → ValueTree) where
+  pub sorted_from : (xs : List X) → Rising (map key xs) → IsSortedBy (λ x y. is_lt (cmp (key x) (key y))) xs
+  sorted_from [] r k d p q = absurd (omega arith)
+  sorted_from (x ∷ []) r k d p q = absurd (omega arith)
+  sorted_from (x ∷ (y ∷ ys)) r zero d p q = ap is_lt (cmp_total.antisymm (key y) (key x) ∙ ap ordering_reverse r.0)
+  sorted_from (x ∷ (y ∷ ys)) r (suc k) d p q = rw add-one (rw add-one at (sorted_from (y ∷ ys) r.1 k d (omega arith) (omega arith)))
+
+  has_at : (v : ValueTree) (xs : List X) (k : ℕ) (d : X) → k < length xs → cmp (key (get_or xs k d)) v ≡ Equal → has v (map key xs) ≡ true
+  unfolding any
+  has_at v [] k d p h = absurd (omega arith)
+  has_at v (x ∷ xs) zero d p h = ap (λ b. b || has v (map key xs)) (ap (same v) (exact (key x) v h) ∙ same_itself v)
+  has_at v (x ∷ xs) (suc k) d p h = ap (λ b. same v (key x) || b) (has_at v xs k d (omega arith) h) ∙ or-true (same v (key x))
+
+  has_none : (v : ValueTree) (xs : List X) → ((k : ℕ) (d : X) → k < length xs → cmp (key (get_or xs k d)) v ≡ Equal → ⊥) → has v (map key xs) ≡ false
+  unfolding any
+  has_none v [] n = refl
+  has_none v (x ∷ xs) n = ap (λ b. b || has v (map key xs)) (not_same v (key x) (n 0 x (omega arith))) ∙ has_none v xs (λ k d p. n (suc k) d (omega arith))
+
+  -- what a binary search answers
+  pub found : (v : ValueTree) (xs : List X) (r : Result ℕ ℕ) → IsSortedBy (λ x y. is_lt (cmp (key x) (key y))) xs → IsSearchInRange r (length xs) → IsBinarySearchResult (λ x. cmp (key x) v) xs r → is_ok r ≡ has v (map key xs)
+  found v xs (Ok i) up p h = at xs refl p h
+    where
+      at : (ys : List X) → ys ≡ xs → i < length xs → HoldsAt (λ x. cmp (key x) v ≡ Equal) xs i → true ≡ has v (map key xs)
+      at [] e p h = absurd (omega (arith, ap length e))
+      at (y ∷ ys) e p h = sym (has_at v xs i y p (h y))
+  found v xs (Err i) up p h =
+      let parts = h (searchable_from_sorted cmp_total key xs v up) in
+      sym (has_none v xs (λ k d q e. ⊎_elim
+      (λ below. less_unequal _ (parts.0 k d (omega arith) below) e)
+      (λ from. greater_unequal _ (parts.1 k d from q) e)
+      (cases_lt k i)))

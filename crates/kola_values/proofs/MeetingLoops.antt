@@ -15,6 +15,7 @@ use Rattle.kola_values.specs.Order.{same}
 use Rattle.kola_values.specs.Sets.{any, has}
 use Rattle.kola_values.specs.Databases.{look_up}
 use Rattle.kola_values.specs.Schemas.{is_listed, are_distinct, names_of}
+use Rattle.kola_values.specs.Meets.{object_values}
 use Rattle.kola_values.specs.MeetsTests.{typed_by, fields_typed_by, is_there, no_two}
 use Rattle.kola_values.specs.Views.{type_tree, type_entry, value_tree, value_entry}
 use Rattle.kola_values.specs.ObjectViews.{object_tree}
@@ -78,6 +79,10 @@ pub there_seen : (os : List ObjectDef) (c : List ℕ) (i : ℕ) → list_any (λ
 unfolding any
 there_seen [] c i = refl
 there_seen (o ∷ os) c i = ap (λ b. same (VObj c i) (VObj o.class o.id) || b) (there_seen os c i)
+
+pub values_seen : (os : List ObjectDef) → map (λ (o : ObjectDef). VObj o.class o.id) os ≡ object_values (map object_tree os)
+values_seen [] = refl
+values_seen (o ∷ os) = ap (λ l. VObj o.class o.id ∷ l) (values_seen os)
 
 -- ---- look-ups
 

@@ -22,7 +22,7 @@ abbrev pub class_part : (v : ValueTree) → List ℕ
 class_part (VObj c i) = c
 class_part v = []
 
-other_class : (c k : List ℕ) (i j : ℕ) → bytes_eq c k ≡ false → same (VObj c i) (VObj k j) ≡ false
+pub other_class : (c k : List ℕ) (i j : ℕ) → bytes_eq c k ≡ false → same (VObj c i) (VObj k j) ≡ false
 other_class c k i j n = at (same (VObj c i) (VObj k j)) refl
   where
     at : (b : Bool) → same (VObj c i) (VObj k j) ≡ b → b ≡ false

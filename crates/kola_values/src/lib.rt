@@ -3,6 +3,7 @@
 
 mod copies;
 mod encoding;
+mod keyed;
 mod laws;
 mod meets;
 mod object;

@@ -1,5 +1,9 @@
 //! Whether objects are a database of a schema.
-ghost use Rattle.std.specs.Prelude.{◌≡◌, ◌↔◌, true, Some, map};
+ghost use Rattle.std.specs.Prelude.{◌≡◌, ◌↔◌, true, Some, map, IfOk};
+ghost use Rattle.std.specs.List.Sorted.{IsSortedBy};
+ghost use Rattle.std.specs.Ordering.{is_lt};
+ghost use Rattle.kola_values.specs.Values.{VObj};
+ghost use Rattle.kola_values.specs.Order.{cmp};
 ghost use Rattle.std.specs.List.{list_any, list_all, find};
 ghost use Rattle.std.specs.Option.{option_map, option_copied};
 ghost use Rattle.std.specs.Str.{bytes_eq};
@@ -12,9 +16,11 @@ ghost use Rattle.kola_values.specs.Views.{type_tree, type_entry, value_tree, val
 ghost use Rattle.kola_values.specs.SchemaViews.{class_tree, class_at, type_at};
 ghost use Rattle.kola_values.specs.ObjectViews.{object_tree};
 
-use crate::objects::{Holds, Listed, has_object, is_of_type};
+use crate::keyed::keys_are_apart;
+use crate::objects::{Holds, Listed, Sorted, has_object, is_of_type, objects_rise};
 use crate::{ClassDef, ObjectDef, Schema, Ty, Value};
-use kola_core::{Name, Names};
+use kola_core::{Memory, Name, Names};
+use std::alloc::Global;
 
 fn entry_named<'a, T>(entries: &'a [(Name, T)], name: &Name) -> Option<&'a (Name, T)>
     ensures { option_copied result ≡ find (λ e. bytes_eq name.now e.0) entries.now }
@@ -46,23 +52,11 @@ fn type_of<'a>(types: &'a [(Name, Ty)], a: &Name) -> Option<&'a Ty>
     Some(&entry.1)
 }
 
-fn value_of<'a>(object: &'a ObjectDef, a: &Name) -> Option<&'a Value>
+pub(crate) fn value_of<'a>(object: &'a ObjectDef, a: &Name) -> Option<&'a Value>
     ensures { option_map value_at result ≡ look_up a.now object.now.values }
 {
     let entry = entry_named(object.values.as_slice(), a)?;
     Some(&entry.1)
-}
-
-fn class_named<'a>(classes: &'a [ClassDef], name: &Name) -> Option<&'a ClassDef>
-    ensures { option_copied result ≡ find (λ c. bytes_eq name.now c.name) classes.now }
-{
-    classes.iter().find(|class| name.is(&class.name))
-}
-
-fn class_of<'a>(schema: &'a Schema, object: &ObjectDef) -> Option<&'a ClassDef>
-    ensures { option_map class_at result ≡ class_named schema.now object.now.class }
-{
-    class_named(schema.as_slice(), &object.class)
 }
 
 // ---- an object and its class
@@ -104,17 +98,16 @@ fn fits_class<H: Holds>(objects: &H, class: &ClassDef, object: &ObjectDef) -> bo
 fn fits<H: Holds>(schema: &Schema, objects: &H, object: &ObjectDef) -> bool
     ensures { result ≡ fits_class (H.there objects.now) (class_named schema.now object.now.class) (object_tree object.now) }
 {
-    match class_of(schema, object) {
+    match schema.class_named(&object.class) {
         Some(class) => fits_class(objects, class, object),
         None => false,
     }
 }
 
-fn all_fit(schema: &Schema, objects: &[ObjectDef]) -> bool
-    ensures { result ≡ list_all (λ o. fits_class (is_there (map object_tree objects.now)) (class_named schema.now o.class) (object_tree o)) objects.now }
+fn all_fit<H: Holds>(schema: &Schema, there: &H, objects: &[ObjectDef]) -> bool
+    ensures { result ≡ list_all (λ o. fits_class (H.there there.now) (class_named schema.now o.class) (object_tree o)) objects.now }
 {
-    let listed = Listed { objects };
-    objects.iter().all(|object| fits(schema, &listed, object))
+    objects.iter().all(|object| fits(schema, there, object))
 }
 
 // ---- keys
@@ -149,7 +142,7 @@ fn clash(class: &ClassDef, o: &ObjectDef, p: &ObjectDef) -> bool
 fn clashes(schema: &Schema, o: &ObjectDef, others: &[ObjectDef]) -> bool
     ensures { result ≡ list_any (λ p. clash (class_named schema.now o.now.class) (object_tree o.now) (object_tree p)) others.now }
 {
-    match class_of(schema, o) {
+    match schema.class_named(&o.class) {
         Some(class) => others.iter().any(|p| clash(class, o, p)),
         None => false,
     }
@@ -183,7 +176,25 @@ fn objects_are_distinct(objects: &[ObjectDef]) -> bool
 fn meets(schema: &Schema, objects: &[ObjectDef]) -> bool
     ensures { result ≡ meets schema.now (map object_tree objects.now) }
 {
-    objects_are_distinct(objects) && all_fit(schema, objects) && keys_are_met(schema, objects)
+    let there = Listed { objects };
+    objects_are_distinct(objects)
+        && all_fit(schema, &there, objects)
+        && keys_are_met(schema, objects)
+}
+
+// The same of a list that is sorted by classes and ids, in time by the number of objects times its logarithm.
+fn sorted_meet(alloc: Global, schema: &Schema, objects: &[ObjectDef]) -> Result<bool, Memory>
+    requires { IsSortedBy (λ o p. is_lt (cmp (VObj o.class o.id) (VObj p.class p.id))) objects.now }
+    ensures { IfOk result (λ b. b ≡ meets schema.now (map object_tree objects.now)) }
+{
+    if !objects_rise(objects) {
+        return Ok(false);
+    }
+    let there = Sorted { objects };
+    if !all_fit(schema, &there, objects) {
+        return Ok(false);
+    }
+    keys_are_apart(alloc, schema, objects)
 }
 
 // What every object keeps.

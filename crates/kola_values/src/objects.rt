@@ -1,16 +1,19 @@
 //! Whether a value is of a type, by a test that asks which objects there are.
 ghost use Rattle.std.specs.Prelude.{◌≡◌, ◌↔◌, ℕ, List, Bool, true, map};
+ghost use Rattle.std.specs.List.Sorted.{IsSortedBy};
+ghost use Rattle.std.specs.Ordering.{is_lt};
 ghost use Rattle.std.specs.List.{list_any, list_all};
 ghost use Rattle.kola_values.specs.Values.{VObj, of_fields};
 ghost use Rattle.kola_values.specs.Types.{of_type_fields};
-ghost use Rattle.kola_values.specs.Order.{same};
+ghost use Rattle.kola_values.specs.Order.{cmp, same};
 ghost use Rattle.kola_values.specs.Encoding.{Shaped};
-ghost use Rattle.kola_values.specs.MeetsTests.{typed_by, fields_typed_by, is_there, anything};
+ghost use Rattle.kola_values.specs.MeetsTests.{typed_by, fields_typed_by, is_there, anything, no_two, same_object};
 ghost use Rattle.kola_values.specs.Views.{type_tree, type_entry, value_tree, value_entry};
 ghost use Rattle.kola_values.specs.ObjectViews.{object_tree};
 
 use crate::{ObjectDef, Ty, Value};
 use kola_core::Name;
+use std::cmp::Ordering;
 
 // What tells whether there is an object.
 pub(crate) trait Holds {
@@ -32,6 +35,37 @@ impl Holds for Listed<'_> {
     fn holds(&self, class: &Name, id: u32) -> bool {
         has_object(self.objects, class, id)
     }
+}
+
+// The objects of a list that is sorted by classes and ids, of which each is found by a binary search.
+#[derive(Drop)]
+pub(crate) struct Sorted<'a> {
+    pub(crate) objects: &'a [ObjectDef],
+    ghost sorted: { IsSortedBy (λ o p. is_lt (cmp (VObj o.class o.id) (VObj p.class p.id))) objects.now },
+}
+
+impl Holds for Sorted<'_> {
+    ghost there = { λ s. is_there (map object_tree s.objects.now) };
+
+    fn holds(&self, class: &Name, id: u32) -> bool {
+        self.objects
+            .binary_search_by(|object| cmp_object(object, class, id))
+            .is_ok()
+    }
+}
+
+fn cmp_object(object: &ObjectDef, class: &Name, id: u32) -> Ordering
+    ensures { result ≡ cmp (VObj object.now.class object.now.id) (VObj class.now id) }
+{
+    object.class.cmp_bytes(class).then(object.id.cmp(&id))
+}
+
+// Whether no two objects of a sorted list are the same.
+pub(crate) fn objects_rise(objects: &[ObjectDef]) -> bool
+    requires { IsSortedBy (λ o p. is_lt (cmp (VObj o.class o.id) (VObj p.class p.id))) objects.now }
+    ensures { result ≡ no_two same_object (map object_tree objects.now) }
+{
+    objects.is_sorted_by(|o, p| cmp_object(o, &p.class, p.id).is_lt())
 }
 
 // Any object.

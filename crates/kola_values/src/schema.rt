@@ -4,7 +4,7 @@ ghost use Rattle.std.specs.List.{list_any, list_all, find};
 ghost use Rattle.std.specs.Option.{option_map, option_copied};
 ghost use Rattle.std.specs.Str.{bytes_eq};
 ghost use Rattle.kola_values.specs.Databases.{attribute_type, extent_class, look_up};
-ghost use Rattle.kola_values.specs.Schemas.{is_listed, are_distinct, names_of, class_names, extent_names, is_stored_type, is_key, is_class, is_schema, extent_named, key_at};
+ghost use Rattle.kola_values.specs.Schemas.{is_listed, are_distinct, names_of, class_names, extent_names, is_stored_type, is_key, is_class, is_schema, class_named, extent_named, key_at};
 ghost use Rattle.kola_values.specs.Views.{type_tree, type_entry, type_entry_at};
 ghost use Rattle.kola_values.specs.SchemaViews.{class_tree, class_at, type_at};
 
@@ -201,18 +201,18 @@ impl Schema {
         let _classes = &self.classes;
     }
 
-    /// The classes in the schema's order.
-    pub fn as_slice(&self) -> &[ClassDef]
-        ensures { map class_tree result.now ≡ self.now }
-    {
-        self.classes.as_slice()
-    }
-
     /// The class at place `n` in the schema's order, counted from 0; `None` past the end.
     pub fn class_at(&self, n: usize) -> Option<&ClassDef>
         ensures { option_map class_at result ≡ slice_get self.now n }
     {
         self.classes.get(n)
+    }
+
+    /// The class of the name; `None` exactly where there is none.
+    pub fn class_named(&self, class: &Name) -> Option<&ClassDef>
+        ensures { option_map class_at result ≡ class_named self.now class.now }
+    {
+        class_by_name(&self.classes, class)
     }
 
     /// The class whose extent has the name; `None` exactly where there is none.

@@ -9,5 +9,5 @@ use Rattle.kola_values.proofs.meets.clashes.Goals as goal
 
 pub returns-in-None : goal.returns-in-None
 returns-in-None c =
-    let e = sym c.class_of.ensures ∙ ap (option_map class_at) c.in-None.is in
+    let e = sym c.class_named.ensures ∙ ap (option_map class_at) c.in-None.is in
     sym (none_passes _ c.args.others.now (λ (p : ObjectDef). ap (λ m. clash m (object_tree c.args.o.now) (object_tree p)) e))

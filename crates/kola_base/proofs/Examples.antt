@@ -2,7 +2,7 @@
 use Rattle.std.proofs.Common.{◌≡◌, [], ◌∷◌, ◌++◌, map, true, false, refl}
 use Rattle.std.specs.Prelude.{pos, negsuc, codes}
 use Rattle.std.specs.List.{list_all}
-use Rattle.kola_base.specs.declared.class.Class.TheVariants.{Blank, LineEnd, Letter, Digit, Minus, Slash, Less, Greater, Equal, Bang, Bar, Single, Other}
+use Rattle.kola_base.specs.declared.class.Class.TheVariants.{Blank, LineEnd, Letter, Digit, Minus, Slash, Less, Greater, Equal, Bang, Bar, Quote, Backslash, Single, Other}
 use Rattle.kola_base.specs.declared.scan.Sort.TheVariants as sorts
 use Rattle.kola_base.specs.declared.lex.Kind.TheVariants as kinds
 use Rattle.kola_base.specs.Pieces.{class, piece}
@@ -14,8 +14,8 @@ use Rattle.kola_base.specs.Lexemes.{LWord, LNumber, LSign, lexemes}
 classes : map class (codes "_a9 -/<>=!|.") ≡ Letter ∷ Letter ∷ Digit ∷ Blank ∷ Minus ∷ Slash ∷ Less ∷ Greater ∷ Equal ∷ Bang ∷ Bar ∷ Single ∷ []
 classes = refl
 
--- tab, LF, CR, a double quote, and bytes past ASCII
-other_classes : map class (9 ∷ 10 ∷ 13 ∷ 34 ∷ 195 ∷ 255 ∷ []) ≡ Blank ∷ LineEnd ∷ Blank ∷ Other ∷ Other ∷ Other ∷ []
+-- tab, LF, CR, a double quote, a backslash, and bytes past ASCII
+other_classes : map class (9 ∷ 10 ∷ 13 ∷ 34 ∷ 92 ∷ 195 ∷ 255 ∷ []) ≡ Blank ∷ LineEnd ∷ Blank ∷ Quote ∷ Backslash ∷ Other ∷ Other ∷ []
 other_classes = refl
 
 -- ---- pieces

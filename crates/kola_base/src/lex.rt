@@ -193,6 +193,7 @@ pub fn lexed_once(text: &[u8])
 mod tests {
     use super::*;
     use crate::number::number_of;
+    use crate::strings::quoted_of;
 
     fn token(kind: Kind, from: usize, to: usize) -> Token {
         Token { kind, from, to }
@@ -254,7 +255,17 @@ mod tests {
 
     #[test]
     fn finds_the_first_fault(rt: HostRuntime) {
-        let shown: [(&[u8], usize, LexWhy); 9] = [
+        let shown: [(&[u8], usize, LexWhy); 19] = [
+            (b"a \"b", 2, LexWhy::OpenString),
+            (b"\"a\nb\"", 0, LexWhy::OpenString),
+            (b"\"\\\n\"", 0, LexWhy::OpenString),
+            (b"\"a\\\"", 0, LexWhy::OpenString),
+            (b"1 \"a\\b\"", 4, LexWhy::BadEscape),
+            (b"\"\\u{110000}\"", 1, LexWhy::BadEscape),
+            (b"\"\\u{d800}\"", 1, LexWhy::BadEscape),
+            (b"\"\\u{0000041}\"", 1, LexWhy::BadEscape),
+            (b"\"\xc3\xa9\xff\\x\"", 3, LexWhy::NotUtf8),
+            (b"\"\\\xff\"", 1, LexWhy::BadEscape),
             (b"a ! b", 2, LexWhy::BadByte),
             (b"a - 1", 2, LexWhy::BadByte),
             (b"a / b", 2, LexWhy::BadByte),
@@ -290,6 +301,28 @@ mod tests {
                     assert_eq!(rt; number_of(text, token), want);
                 }
             }
+        }
+        Ok(())
+    }
+
+    #[test]
+    fn reads_strings(rt: HostRuntime) -> Result<(), LexFault> {
+        let shown: [(&[u8], &[u8]); 5] = [
+            (b"\"\"", b""),
+            (b"\"a b\"", b"a b"),
+            (b"\"\\\"\\\\\\n\\t\"", b"\"\\\n\t"),
+            (b"\"\\u{e9}\\u{10FFFF}\"", b"\xc3\xa9\xf4\x8f\xbf\xbf"),
+            (b"\"\xc3\xa9// x\"", b"\xc3\xa9// x"),
+        ];
+        for (text, want) in shown {
+            let mut strings = 0;
+            for token in &tokens(rt.alloc(), text)? {
+                if let Kind::Quoted = token.kind {
+                    strings += 1;
+                    assert_eq!(rt; quoted_of(rt.alloc(), text, token)?.as_slice(), want);
+                }
+            }
+            assert_eq!(rt; strings, 1);
         }
         Ok(())
     }

@@ -13,6 +13,10 @@ pub mod EncodingLoops
 pub mod EncodingBack
 mod Examples
 mod EncodingExamples
+pub mod MeetingLoops
+pub mod MeetingTypes
+pub mod Meeting
 pub mod Schemas
 pub mod NameTests
 mod SchemaExamples
+mod MeetExamples

@@ -4,7 +4,9 @@
 mod copies;
 mod encoding;
 mod laws;
+mod meets;
 mod object;
+mod objects;
 mod order;
 mod schema;
 mod schema_laws;
@@ -18,7 +20,9 @@ pub use encoding::{
     encoding_keeps_order,
 };
 pub use laws::{equal_types_are_the_same, values_are_totally_ordered};
+pub use meets::objects_ok;
 pub use object::ObjectDef;
+pub use objects::shaped;
 pub use order::cmp_values;
 pub use schema::{ClassDef, Keys, Schema, classes_ok};
 pub use schema_laws::tests_of_names_are_exact;
@@ -29,6 +33,8 @@ pub use text::{
 pub use ty::{BoxedTy, Fields, Ty};
 pub use value::{BoxedValue, Set, Value, ValueFields};
 
+#[cfg(test)]
+mod meets_tests;
 #[cfg(test)]
 mod schema_tests;
 #[cfg(test)]

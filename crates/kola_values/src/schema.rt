@@ -201,6 +201,13 @@ impl Schema {
         let _classes = &self.classes;
     }
 
+    /// The classes in the schema's order.
+    pub fn as_slice(&self) -> &[ClassDef]
+        ensures { map class_tree result.now ≡ self.now }
+    {
+        self.classes.as_slice()
+    }
+
     /// The class at place `n` in the schema's order, counted from 0; `None` past the end.
     pub fn class_at(&self, n: usize) -> Option<&ClassDef>
         ensures { option_map class_at result ≡ slice_get self.now n }

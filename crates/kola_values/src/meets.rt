@@ -1,0 +1,215 @@
+//! Whether objects are a database of a schema.
+ghost use Rattle.std.specs.Prelude.{◌≡◌, ◌↔◌, true, Some, map};
+ghost use Rattle.std.specs.List.{list_any, list_all, find};
+ghost use Rattle.std.specs.Option.{option_map, option_copied};
+ghost use Rattle.std.specs.Str.{bytes_eq};
+ghost use Rattle.kola_values.specs.Sets.{Each};
+ghost use Rattle.kola_values.specs.Databases.{look_up, value_or_unit};
+ghost use Rattle.kola_values.specs.Schemas.{are_distinct, is_listed, names_of, class_named};
+ghost use Rattle.kola_values.specs.Meets.{Meets};
+ghost use Rattle.kola_values.specs.MeetsTests.{IsHeld, is_there, no_two, same_object, is_value_of, fits_class, agree_at, clash, all_fit, keys_are_met, meets};
+ghost use Rattle.kola_values.specs.Views.{type_tree, type_entry, value_tree, value_entry, value_at};
+ghost use Rattle.kola_values.specs.SchemaViews.{class_tree, class_at, type_at};
+ghost use Rattle.kola_values.specs.ObjectViews.{object_tree};
+
+use crate::objects::{Holds, Listed, has_object, is_of_type};
+use crate::{ClassDef, ObjectDef, Schema, Ty, Value};
+use kola_core::{Name, Names};
+
+fn entry_named<'a, T>(entries: &'a [(Name, T)], name: &Name) -> Option<&'a (Name, T)>
+    ensures { option_copied result ≡ find (λ e. bytes_eq name.now e.0) entries.now }
+{
+    entries.iter().find(|entry| name.is(&entry.0))
+}
+
+fn has_label<T>(entries: &[(Name, T)], label: &Name) -> bool
+    ensures { result ≡ list_any (λ e. bytes_eq label.now e.0) entries.now }
+{
+    entries.iter().any(|entry| label.is(&entry.0))
+}
+
+fn labels_are_distinct(entries: &[(Name, Value)]) -> bool
+    ensures { result ≡ are_distinct (map (λ e. e.0) entries.now) }
+{
+    for i in 0..entries.len() {
+        if has_label(&entries[i + 1..], &entries[i].0) {
+            return false;
+        }
+    }
+    true
+}
+
+fn type_of<'a>(types: &'a [(Name, Ty)], a: &Name) -> Option<&'a Ty>
+    ensures { option_map type_at result ≡ look_up a.now (map type_entry types.now) }
+{
+    let entry = entry_named(types, a)?;
+    Some(&entry.1)
+}
+
+fn value_of<'a>(object: &'a ObjectDef, a: &Name) -> Option<&'a Value>
+    ensures { option_map value_at result ≡ look_up a.now object.now.values }
+{
+    let entry = entry_named(object.values.as_slice(), a)?;
+    Some(&entry.1)
+}
+
+fn class_named<'a>(classes: &'a [ClassDef], name: &Name) -> Option<&'a ClassDef>
+    ensures { option_copied result ≡ find (λ c. bytes_eq name.now c.name) classes.now }
+{
+    classes.iter().find(|class| name.is(&class.name))
+}
+
+fn class_of<'a>(schema: &'a Schema, object: &ObjectDef) -> Option<&'a ClassDef>
+    ensures { option_map class_at result ≡ class_named schema.now object.now.class }
+{
+    class_named(schema.as_slice(), &object.class)
+}
+
+// ---- an object and its class
+
+fn is_value_of<H: Holds>(objects: &H, types: &[(Name, Ty)], entry: &(Name, Value)) -> bool
+    ensures { result ≡ is_value_of (H.there objects.now) (look_up entry.now.0 (map type_entry types.now)) (value_tree entry.now.1) }
+{
+    match type_of(types, &entry.0) {
+        Some(t) => is_of_type(objects, &entry.1, t),
+        None => false,
+    }
+}
+
+fn are_typed<H: Holds>(objects: &H, types: &[(Name, Ty)], values: &[(Name, Value)]) -> bool
+    ensures { result ≡ list_all (λ e. is_value_of (H.there objects.now) (look_up e.0 (map type_entry types.now)) (value_tree e.1)) values.now }
+{
+    values
+        .iter()
+        .all(|entry| is_value_of(objects, types, entry))
+}
+
+fn are_whole(types: &[(Name, Ty)], values: &[(Name, Value)]) -> bool
+    ensures { result ≡ list_all (λ t. list_any (λ e. bytes_eq t.0 e.0) values.now) types.now }
+{
+    types.iter().all(|entry| has_label(values, &entry.0))
+}
+
+fn fits_class<H: Holds>(objects: &H, class: &ClassDef, object: &ObjectDef) -> bool
+    ensures { result ≡ fits_class (H.there objects.now) (Some (class_tree class.now)) (object_tree object.now) }
+{
+    let types = class.attributes.as_slice();
+    let values = object.values.as_slice();
+    object.id > 0
+        && labels_are_distinct(values)
+        && are_typed(objects, types, values)
+        && are_whole(types, values)
+}
+
+fn fits<H: Holds>(schema: &Schema, objects: &H, object: &ObjectDef) -> bool
+    ensures { result ≡ fits_class (H.there objects.now) (class_named schema.now object.now.class) (object_tree object.now) }
+{
+    match class_of(schema, object) {
+        Some(class) => fits_class(objects, class, object),
+        None => false,
+    }
+}
+
+fn all_fit(schema: &Schema, objects: &[ObjectDef]) -> bool
+    ensures { result ≡ list_all (λ o. fits_class (is_there (map object_tree objects.now)) (class_named schema.now o.class) (object_tree o)) objects.now }
+{
+    let listed = Listed { objects };
+    objects.iter().all(|object| fits(schema, &listed, object))
+}
+
+// ---- keys
+
+fn agree_at(o: &ObjectDef, p: &ObjectDef, a: &Name) -> bool
+    ensures { result ≡ agree_at (object_tree o.now) (object_tree p.now) a.now }
+{
+    let unit = Value::Unit;
+    let v = value_of(o, a).unwrap_or(&unit);
+    let w = value_of(p, a).unwrap_or(&unit);
+    v.is(w)
+}
+
+fn agree_on(o: &ObjectDef, p: &ObjectDef, key: &Names) -> bool
+    ensures { result ≡ list_all (λ a. agree_at (object_tree o.now) (object_tree p.now) a) key.now }
+{
+    key.as_slice().iter().all(|a| agree_at(o, p, a))
+}
+
+fn agree_on_some(o: &ObjectDef, p: &ObjectDef, keys: &[Names]) -> bool
+    ensures { result ≡ list_any (λ key. list_all (λ a. agree_at (object_tree o.now) (object_tree p.now) a) key) keys.now }
+{
+    keys.iter().any(|key| agree_on(o, p, key))
+}
+
+fn clash(class: &ClassDef, o: &ObjectDef, p: &ObjectDef) -> bool
+    ensures { result ≡ clash (Some (class_tree class.now)) (object_tree o.now) (object_tree p.now) }
+{
+    o.class.is(&p.class) && agree_on_some(o, p, class.keys.as_slice())
+}
+
+fn clashes(schema: &Schema, o: &ObjectDef, others: &[ObjectDef]) -> bool
+    ensures { result ≡ list_any (λ p. clash (class_named schema.now o.now.class) (object_tree o.now) (object_tree p)) others.now }
+{
+    match class_of(schema, o) {
+        Some(class) => others.iter().any(|p| clash(class, o, p)),
+        None => false,
+    }
+}
+
+fn keys_are_met(schema: &Schema, objects: &[ObjectDef]) -> bool
+    ensures { result ≡ keys_are_met schema.now (map object_tree objects.now) }
+{
+    for i in 0..objects.len() {
+        if clashes(schema, &objects[i], &objects[i + 1..]) {
+            return false;
+        }
+    }
+    true
+}
+
+// ---- a database and its schema
+
+fn objects_are_distinct(objects: &[ObjectDef]) -> bool
+    ensures { result ≡ no_two same_object (map object_tree objects.now) }
+{
+    for i in 0..objects.len() {
+        let object = &objects[i];
+        if has_object(&objects[i + 1..], &object.class, object.id) {
+            return false;
+        }
+    }
+    true
+}
+
+fn meets(schema: &Schema, objects: &[ObjectDef]) -> bool
+    ensures { result ≡ meets schema.now (map object_tree objects.now) }
+{
+    objects_are_distinct(objects) && all_fit(schema, objects) && keys_are_met(schema, objects)
+}
+
+// What every object keeps.
+fn held(object: &ObjectDef)
+    ensures { IsHeld (object_tree object.now) }
+{
+    object.values.well_formed();
+    let _id = object.id;
+}
+
+// What every object of a list keeps.
+fn all_held(objects: &[ObjectDef])
+    ensures { Each IsHeld (map object_tree objects.now) }
+{
+    for object in objects {
+        held(object);
+    }
+}
+
+/// Whether the objects are a database of the schema: no two objects of a class have one id, each object is of a class of the schema, has an
+/// id from 1 and exactly the attributes of its class, each once and with a value of its type, in which each object that is named is one of
+/// the list, and no two objects of a class agree on all attributes of one of its keys. It takes no memory: it compares each object with each
+/// other, in time by the square of the number of objects.
+pub fn objects_ok(schema: &Schema, objects: &[ObjectDef]) -> bool
+    ensures { (result ≡ true) ↔ Meets schema.now (map object_tree objects.now) }
+{
+    all_held(objects);
+    meets(schema, objects)
+}

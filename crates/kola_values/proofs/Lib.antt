@@ -14,5 +14,6 @@ pub mod EncodingBack
 mod Examples
 mod EncodingExamples
 pub mod Schemas
+pub mod Places
 pub mod NameTests
 mod SchemaExamples

@@ -4,6 +4,7 @@
 mod copies;
 mod encoding;
 mod laws;
+mod name_table;
 mod object;
 mod order;
 mod schema;

@@ -15,5 +15,7 @@ mod Examples
 mod EncodingExamples
 pub mod Schemas
 pub mod Places
+pub mod Reordered
+pub mod Stored
 pub mod NameTests
 mod SchemaExamples

@@ -102,7 +102,7 @@ all_parts true true false h = absurd (cc)
 all_parts true false c h = absurd (cc)
 all_parts false b c h = absurd (cc)
 
-parts_of_schema : (S : Classes) → is_schema S ≡ true → (are_distinct (class_names S) ≡ true) × (are_distinct (extent_names S) ≡ true) × (list_all (is_class (class_names S)) S ≡ true)
+pub parts_of_schema : (S : Classes) → is_schema S ≡ true → (are_distinct (class_names S) ≡ true) × (are_distinct (extent_names S) ≡ true) × (list_all (is_class (class_names S)) S ≡ true)
 parts_of_schema S h = all_parts (are_distinct (class_names S)) (are_distinct (extent_names S)) (list_all (is_class (class_names S)) S) h
 
 module _ (cs : List ClassDef) (h : is_schema (map class_tree cs) ≡ true) where

@@ -180,9 +180,9 @@ fn attribute_table(alloc: Global, entries: &[(Name, Ty)]) -> Result<NameTable, M
     Ok(names)
 }
 
-// A class with a table of its attributes. Contracts see it as the class.
+/// A class with a table of its attributes. Contracts see it as the class.
 #[derive(Drop)]
-struct IndexedClass {
+pub struct IndexedClass {
     class: ClassDef,
     attributes: NameTable,
 }
@@ -214,7 +214,8 @@ impl IndexedClass {
         Ok(IndexedClass { class, attributes })
     }
 
-    fn get(&self) -> &ClassDef
+    /// The class.
+    pub fn get(&self) -> &ClassDef
         ensures { class_tree result.now ≡ self.now }
     {
         &self.class
@@ -341,6 +342,13 @@ impl Schema {
     {
         let class = self.by_name(class)?;
         class.get().keys.get(n)
+    }
+
+    /// The classes in their order, each with its table.
+    pub fn classes(&self) -> &[IndexedClass]
+        ensures { result.now ≡ self.now }
+    {
+        self.classes.as_slice()
     }
 
     fn by_name(&self, name: &Name) -> Option<&IndexedClass>

@@ -19,3 +19,4 @@ pub mod Reordered
 pub mod Stored
 pub mod NameTests
 mod SchemaExamples
+mod DbExamples

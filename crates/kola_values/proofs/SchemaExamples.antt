@@ -4,10 +4,10 @@ use Rattle.kola_values.specs.Types.{TypeTree, TInt, TStr, TUnit, TClass, TVar, T
 use Rattle.kola_values.specs.Databases.{Class, Classes, attribute_type, extent_class}
 use Rattle.kola_values.specs.Schemas.{is_schema, extent_named, key_at}
 
-abbrev car_type : TypeTree
+abbrev pub car_type : TypeTree
 car_type = TSet (TClass (codes "Vehicle"))
 
-abbrev person : List (List (List ℕ)) → Class
+abbrev pub person : List (List (List ℕ)) → Class
 person keys = record {
   name = codes "Person";
   extent = codes "Persons";
@@ -15,14 +15,14 @@ person keys = record {
   keys = keys;
 }
 
-abbrev person_keys : List (List (List ℕ))
+abbrev pub person_keys : List (List (List ℕ))
 person_keys = (codes "ssn" ∷ []) ∷ (codes "first" ∷ codes "last" ∷ []) ∷ []
 
 -- a class with one attribute
-abbrev vehicle : List ℕ → List ℕ → TypeTree → Class
+abbrev pub vehicle : List ℕ → List ℕ → TypeTree → Class
 vehicle name extent t = record { name = name; extent = extent; attributes = (codes "year", t) ∷ []; keys = [] }
 
-abbrev sample : Classes
+abbrev pub sample : Classes
 sample = person person_keys ∷ vehicle (codes "Vehicle") (codes "Vehicles") TInt ∷ []
 
 -- ---- the test

@@ -17,6 +17,10 @@ pub mod MeetingLoops
 pub mod MeetingTypes
 pub mod Meeting
 pub mod Schemas
+pub mod Places
+pub mod Reordered
+pub mod Stored
 pub mod NameTests
 mod SchemaExamples
 mod MeetExamples
+mod DbExamples

@@ -59,5 +59,5 @@ cut_all text out at ts c l e =
       are = e ∙ ap (λ x. x ++ end_at at ∷ []) c.are ∙ ap (λ k. tokens_of 0 c.pieces ++ end_at k ∷ []) same;
     }
 
-pub cut_stops : (text : List ℕ) (out : List Token) (at : ℕ) (y : LexWhy) → CutSoFar text out at → IsStuck (drop at text) y → StopsAt text at y
-cut_stops text out at y c h = record { pieces = c.pieces; before = c.cut; stuck = h }
+pub cut_stops : (text : List ℕ) (out : List Token) (at n : ℕ) (y : LexWhy) → CutSoFar text out at → IsStuck (drop at text) n y → StopsAt text (at + n) y
+cut_stops text out at n y c h = record { pieces = c.pieces; from = at; behind = n; before = c.cut; stuck = h; is = refl }

@@ -2,10 +2,16 @@
 use Rattle.std.proofs.Common.{◌≡◌, [], ◌∷◌, ◌++◌, map, true, false, refl}
 use Rattle.std.specs.Prelude.{pos, negsuc, codes}
 use Rattle.std.specs.List.{list_all}
-use Rattle.kola_base.specs.declared.class.Class.TheVariants.{Blank, LineEnd, Letter, Digit, Minus, Slash, Less, Greater, Equal, Bang, Bar, Single, Other}
+use Rattle.kola_base.specs.declared.class.Class.TheVariants.{Blank, LineEnd, Letter, Digit, Minus, Slash, Less, Greater, Equal, Bang, Bar, Quote, Backslash, Single, Other}
 use Rattle.kola_base.specs.declared.scan.Sort.TheVariants as sorts
 use Rattle.kola_base.specs.declared.lex.Kind.TheVariants as kinds
 use Rattle.kola_base.specs.Pieces.{class, piece}
+use Rattle.std.specs.Prelude.{None, Some}
+use Rattle.std.specs.Char.{encode_utf8}
+use Rattle.std.specs.Str.{is_utf8, chars}
+use Rattle.std.specs.Str.Lossy.{utf8_valid_len}
+use Rattle.kola_base.specs.declared.lex.LexWhy.TheVariants.{BadEscape, NotUtf8}
+use Rattle.kola_base.specs.Strings.{escape, string_value, string_fault}
 use Rattle.kola_base.specs.Numbers.{number_value}
 use Rattle.kola_core.specs.Integers.{in_64}
 use Rattle.kola_base.specs.Tokens.{tokens_of, end_at}
@@ -14,8 +20,8 @@ use Rattle.kola_base.specs.Lexemes.{LWord, LNumber, LSign, lexemes}
 classes : map class (codes "_a9 -/<>=!|.") ≡ Letter ∷ Letter ∷ Digit ∷ Blank ∷ Minus ∷ Slash ∷ Less ∷ Greater ∷ Equal ∷ Bang ∷ Bar ∷ Single ∷ []
 classes = refl
 
--- tab, LF, CR, a double quote, and bytes past ASCII
-other_classes : map class (9 ∷ 10 ∷ 13 ∷ 34 ∷ 195 ∷ 255 ∷ []) ≡ Blank ∷ LineEnd ∷ Blank ∷ Other ∷ Other ∷ Other ∷ []
+-- tab, LF, CR, a double quote, a backslash, and bytes past ASCII
+other_classes : map class (9 ∷ 10 ∷ 13 ∷ 34 ∷ 92 ∷ 195 ∷ 255 ∷ []) ≡ Blank ∷ LineEnd ∷ Blank ∷ Quote ∷ Backslash ∷ Other ∷ Other ∷ []
 other_classes = refl
 
 -- ---- pieces
@@ -34,6 +40,31 @@ numbers = refl
 
 comments : map (piece sorts.Comment) (codes "//" ∷ codes "// \"%" ∷ codes "/" ∷ (codes "// a" ++ 10 ∷ []) ∷ []) ≡ true ∷ true ∷ false ∷ false ∷ []
 comments = refl
+
+-- ---- strings
+
+-- a quote that a backslash takes ends no string, and two backslashes take none
+strings : map (piece sorts.Quoted) ((34 ∷ 34 ∷ []) ∷ (34 ∷ 92 ∷ 34 ∷ []) ∷ (34 ∷ 92 ∷ 92 ∷ 34 ∷ []) ∷ (34 ∷ 10 ∷ 34 ∷ []) ∷ (34 ∷ 97 ∷ 34 ∷ 34 ∷ []) ∷ []) ≡ true ∷ false ∷ true ∷ false ∷ false ∷ []
+strings = refl
+
+-- "a\"\\\n\t"
+escapes : string_value (34 ∷ 97 ∷ 92 ∷ 34 ∷ 92 ∷ 92 ∷ 92 ∷ 110 ∷ 92 ∷ 116 ∷ 34 ∷ []) ≡ 97 ∷ 34 ∷ 92 ∷ 10 ∷ 9 ∷ []
+unfolding encode_utf8
+escapes = refl
+
+-- "\u{e9}"
+hexadecimal_escape : string_value (34 ∷ 92 ∷ 117 ∷ 123 ∷ 101 ∷ 57 ∷ 125 ∷ 34 ∷ []) ≡ 195 ∷ 169 ∷ []
+unfolding encode_utf8
+hexadecimal_escape = refl
+
+-- a surrogate, a number past the last character, seven digits, no digit, no brace
+no_escapes : map escape (codes "u{d800}" ∷ codes "u{110000}" ∷ codes "u{0000041}" ∷ codes "u{}" ∷ codes "u{41" ∷ codes "x" ∷ []) ≡ None ∷ None ∷ None ∷ None ∷ None ∷ None ∷ []
+no_escapes = refl
+
+-- the first of two faults: "é" cut short before a bad escape, and behind one
+first_faults : (string_fault (34 ∷ 195 ∷ 92 ∷ 120 ∷ 34 ∷ []) ≡ Some (1, NotUtf8)) × (string_fault (34 ∷ 92 ∷ 120 ∷ 195 ∷ 34 ∷ []) ≡ Some (1, BadEscape))
+unfolding utf8_valid_len is_utf8 chars encode_utf8
+first_faults = (refl, refl)
 
 -- ---- numbers
 

@@ -8,3 +8,4 @@ pub mod Cutting
 pub mod Spans
 pub mod Total
 mod Examples
+pub mod Escapes

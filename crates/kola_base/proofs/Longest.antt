@@ -1,24 +1,24 @@
 -- The first piece from left to right is the longest one.
-use Rattle.std.proofs.Common.{◌≡◌, ℕ, zero, suc, ◌+◌, ◌<◌, ◌≤◌, List, [], ◌∷◌, length, take, map, Bool, true, false, cond, ◌&&◌, Option, Some, None, refl, sym, ap, subst, ◌∙◌, arith, one-add}
+use Rattle.std.proofs.Common.{◌≡◌, ℕ, zero, suc, ◌+◌, ◌<◌, ◌≤◌, List, [], ◌∷◌, length, take, map, Bool, true, false, cond, ◌&&◌, Option, Some, None, option_map, refl, sym, ap, subst, ◌∙◌, arith, one-add}
 use Rattle.std.specs.Prelude.{IfSome, IfNone}
 use Rattle.std.specs.List.{list_all, prefix_len}
 use Rattle.std.proofs.lemmas.List.{length-map, take-map}
 use Rattle.std.proofs.lemmas.List.Sums.{prefix_len-le-length}
 use Rattle.kola_base.specs.declared.class.Class.{Class}
-use Rattle.kola_base.specs.declared.class.Class.TheVariants.{Blank, LineEnd, Letter, Digit, Minus, Slash, Less, Greater, Equal, Bang, Bar, Single, Other}
+use Rattle.kola_base.specs.declared.class.Class.TheVariants.{Blank, LineEnd, Letter, Digit, Minus, Slash, Less, Greater, Equal, Bang, Bar, Quote, Backslash, Single, Other}
 use Rattle.kola_base.specs.declared.scan.Sort.{Sort}
 use Rattle.kola_base.specs.declared.scan.Sort.TheVariants as sorts
-use Rattle.kola_base.specs.Pieces.{class, goes_on, shape, piece, IsLongest, NoPiece}
-use Rattle.kola_base.specs.Scanning.{next_class, first_by, first_piece}
+use Rattle.kola_base.specs.Pieces.{class, goes_on, shape, closes, piece, IsLongest, NoPiece}
+use Rattle.kola_base.specs.Scanning.{next_class, first_by, first_piece, string_len}
 
 -- ---- the longest front that passes
 
-front_at : (p : Class → Bool) (k : Class) (ks : List Class) (q : Bool) → p k ≡ q → list_all p (take (prefix_len p ks) ks) ≡ true → list_all p (take (cond q (1 + prefix_len p ks) 0) (k ∷ ks)) ≡ true
+front_at : {A : Type 0} (p : A → Bool) (k : A) (ks : List A) (q : Bool) → p k ≡ q → list_all p (take (prefix_len p ks) ks) ≡ true → list_all p (take (cond q (1 + prefix_len p ks) 0) (k ∷ ks)) ≡ true
 front_at p k ks true e h = rw one-add (ap (λ q. q && list_all p (take (prefix_len p ks) ks)) e ∙ h)
 front_at p k ks false e h = refl
 
 -- it passes
-front_passes : (p : Class → Bool) (ks : List Class) → list_all p (take (prefix_len p ks) ks) ≡ true
+pub front_passes : {A : Type 0} (p : A → Bool) (ks : List A) → list_all p (take (prefix_len p ks) ks) ≡ true
 front_passes p [] = refl
 front_passes p (k ∷ ks) = front_at p k ks (p k) refl (front_passes p ks)
 
@@ -88,6 +88,10 @@ no_bang : NoSingle Bang
 no_bang sorts.Blank e = cc
 no_bang _ e = cc
 
+no_backslash : NoSingle Backslash
+no_backslash sorts.Blank e = cc
+no_backslash _ e = cc
+
 no_other : NoSingle Other
 no_other sorts.Blank e = cc
 no_other _ e = cc
@@ -107,6 +111,10 @@ single_pair j _ xs e = cc
 equal_pair : (j : Class) → NoPair Equal j
 equal_pair j sorts.Blank xs e = cc
 equal_pair j _ xs e = cc
+
+backslash_pair : (j : Class) → NoPair Backslash j
+backslash_pair j sorts.Blank xs e = cc
+backslash_pair j _ xs e = cc
 
 other_pair : (j : Class) → NoPair Other j
 other_pair j sorts.Blank xs e = cc
@@ -193,6 +201,50 @@ negative_is ks n h = rw one-add h
 comment_is : (ks : List Class) (n : ℕ) → list_all (goes_on sorts.Comment) (take n ks) ≡ true → shape sorts.Comment (Slash ∷ take (1 + n) (Slash ∷ ks)) ≡ true
 comment_is ks n h = rw one-add h
 
+-- ---- strings
+
+mapped : (o : Option ℕ) (n : ℕ) → option_map suc o ≡ Some n → (m : ℕ) × (n ≡ suc m) × (o ≡ Some m)
+mapped None n e = absurd cc
+mapped (Some m) n e = (m, (let i : Some (suc m) ≡ Some n = e in sym (some_is i)), refl)
+  where
+    some_is : {a b : ℕ} → Some a ≡ Some b → a ≡ b
+    some_is e = cc
+
+-- the bytes up to its end close a string
+string_closes : (t : Bool) (ks : List Class) (n : ℕ) → string_len t ks ≡ Some n → (n ≤ length ks) × (closes t (take n ks) ≡ true)
+string_closes t [] n e = absurd cc
+string_closes t (LineEnd ∷ ks) n e = absurd cc
+string_closes true (k ∷ ks) n e = let p = mapped (string_len false ks) n e in let h = string_closes false ks p.0 p.2 in rw p.1 (omega (arith, h.0), h.1)
+string_closes false (Quote ∷ ks) n e = let one : n ≡ 1 = cc in rw one (omega arith, refl)
+string_closes false (Backslash ∷ ks) n e = let p = mapped (string_len true ks) n e in let h = string_closes true ks p.0 p.2 in rw p.1 (omega (arith, h.0), h.1)
+string_closes false (k ∷ ks) n e = let p = mapped (string_len false ks) n e in let h = string_closes false ks p.0 p.2 in rw p.1 (omega (arith, h.0), h.1)
+
+-- and no other bytes do
+string_only : (t : Bool) (ks : List Class) (m : ℕ) → m ≤ length ks → closes t (take m ks) ≡ true → string_len t ks ≡ Some m
+string_only t [] zero l e = absurd cc
+string_only t [] (suc m) l e = absurd (omega (arith, l))
+string_only t (k ∷ ks) zero l e = absurd cc
+string_only t (LineEnd ∷ ks) (suc m) l e = absurd cc
+string_only true (k ∷ ks) (suc m) l e = ap (option_map suc) (string_only false ks m (omega (arith, l)) e)
+string_only false (Quote ∷ ks) (suc zero) l e = refl
+string_only false (Quote ∷ []) (suc (suc m)) l e = absurd (omega (arith, l))
+string_only false (Quote ∷ (k ∷ ks)) (suc (suc m)) l e = absurd cc
+string_only false (Backslash ∷ ks) (suc m) l e = ap (option_map suc) (string_only true ks m (omega (arith, l)) e)
+string_only false (k ∷ ks) (suc m) l e = ap (option_map suc) (string_only false ks m (omega (arith, l)) e)
+
+string_longest : (ks : List Class) (n : ℕ) → string_len false ks ≡ Some n → NoLonger (suc n) (Quote ∷ ks)
+string_longest ks n s r zero h l e = absurd (omega (arith, h))
+string_longest ks n s sorts.Quoted (suc m) h l e =
+    let other = string_only false ks m (omega (arith, l)) e in
+    let same : n ≡ m = cc in
+    omega (arith, h, same)
+string_longest ks n s _ (suc m) h l e = cc
+
+string_none : (ks : List Class) → string_len false ks ≡ None → NoLonger 0 (Quote ∷ ks)
+string_none ks s r zero h l e = absurd (omega (arith, h))
+string_none ks s sorts.Quoted (suc m) h l e = let other = string_only false ks m (omega (arith, l)) e in absurd cc
+string_none ks s _ (suc m) h l e = cc
+
 -- ---- what first_piece answers is the longest piece
 
 abbrev IsAnswer : List Class → Option (Sort × ℕ) → Type 0
@@ -211,6 +263,10 @@ negative_answer ks = (omega (arith, prefix_len-le-length (goes_on sorts.Number) 
 comment_answer : (ks : List Class) → IsAnswer (Slash ∷ Slash ∷ ks) (first_by Slash Slash (Slash ∷ ks))
 comment_answer ks = (omega (arith, prefix_len-le-length (goes_on sorts.Comment) ks), comment_is ks (prefix_len (goes_on sorts.Comment) ks) (front_passes (goes_on sorts.Comment) ks), comment_longest ks)
 
+string_answer : (ks : List Class) (o : Option ℕ) → string_len false ks ≡ o → IsAnswer (Quote ∷ ks) (option_map (λ n. (sorts.Quoted, suc n)) o)
+string_answer ks None e = string_none ks e
+string_answer ks (Some n) e = let h = string_closes false ks n e in (omega (arith, h.0), h.1, string_longest ks n e)
+
 -- the text ends behind a byte
 last_answer : (k : Class) → IsAnswer (k ∷ []) (first_by k Other [])
 last_answer Letter = word_answer []
@@ -218,6 +274,8 @@ last_answer Digit = number_answer []
 last_answer Minus = none_end Minus no_minus
 last_answer Slash = none_end Slash no_slash
 last_answer Bang = none_end Bang no_bang
+last_answer Quote = string_answer [] None refl
+last_answer Backslash = none_end Backslash no_backslash
 last_answer Other = none_end Other no_other
 last_answer k = (omega arith, refl, past_end k)
 
@@ -240,6 +298,8 @@ two_answer Bang Equal ks = (omega arith, refl, past_two Bang Equal ks unequal_tr
 two_answer Bang j ks = past_none Bang j ks no_bang (bang_pair j (λ e. cc))
 two_answer Bar Bar ks = (omega arith, refl, past_two Bar Bar ks bars_triple)
 two_answer Bar j ks = (omega arith, refl, past_one Bar j ks (bar_pair j (λ e. cc)))
+two_answer Quote j ks = string_answer (j ∷ ks) (string_len false (j ∷ ks)) refl
+two_answer Backslash j ks = past_none Backslash j ks no_backslash (backslash_pair j)
 two_answer Single j ks = (omega arith, refl, past_one Single j ks (single_pair j))
 two_answer Other j ks = past_none Other j ks no_other (other_pair j)
 

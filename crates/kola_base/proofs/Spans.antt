@@ -31,6 +31,7 @@ module _ (text : List ℕ) (at n : ℕ) where
   token_in sorts.Comment l h = All-nil (IsTokenIn text)
   token_in sorts.Word l h = one_in kinds.Word (has_byte sorts.Word n (drop at text) l) l.within l.is
   token_in sorts.Number l h = one_in kinds.Number (has_byte sorts.Number n (drop at text) l) l.within (l.is, h)
+  token_in sorts.Quoted l h = one_in kinds.Quoted (has_byte sorts.Quoted n (drop at text) l) l.within (l.is, h)
   token_in sorts.Sign l h = one_in kinds.Sign (has_byte sorts.Sign n (drop at text) l) l.within l.is
 
 tokens_in : (ps : List (Sort × ℕ)) (at : ℕ) (text : List ℕ) → Cuts ps (drop at text) [] → All (IsTokenIn text) (tokens_of at ps)
@@ -58,6 +59,7 @@ order_next sorts.Blank m at n ts l go = go m (omega (arith, l))
 order_next sorts.Comment m at n ts l go = go m (omega (arith, l))
 order_next sorts.Word m at n ts l go = (l, go (at + n) (omega arith))
 order_next sorts.Number m at n ts l go = (l, go (at + n) (omega arith))
+order_next sorts.Quoted m at n ts l go = (l, go (at + n) (omega arith))
 order_next sorts.Sign m at n ts l go = (l, go (at + n) (omega arith))
 
 order_of : (ps : List (Sort × ℕ)) (m at end : ℕ) → m ≤ at → at + total ps ≡ end → InOrder m (tokens_of at ps ++ end_at end ∷ [])

@@ -5,5 +5,6 @@ pub mod ReadToEnd
 pub mod Pieces
 pub mod Scanning
 pub mod Numbers
+pub mod Strings
 pub mod Tokens
 pub mod Lexemes

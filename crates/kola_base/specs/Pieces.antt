@@ -2,7 +2,7 @@
 use Rattle.std.specs.Prelude.{◌≡◌, ℕ, ◌<◌, ◌≤◌, List, [], ◌∷◌, length, take, map, Bool, true, false, nat_le, ◌==◌, ◌&&◌, ◌||◌, if◌then◌else◌, codes}
 use Rattle.std.specs.List.{list_all, list_any}
 use Rattle.kola_base.specs.declared.class.Class.{Class}
-use Rattle.kola_base.specs.declared.class.Class.TheVariants.{Blank, LineEnd, Letter, Digit, Minus, Slash, Less, Greater, Equal, Bang, Bar, Single, Other}
+use Rattle.kola_base.specs.declared.class.Class.TheVariants.{Blank, LineEnd, Letter, Digit, Minus, Slash, Less, Greater, Equal, Bang, Bar, Quote, Backslash, Single, Other}
 use Rattle.kola_base.specs.declared.scan.Sort.{Sort}
 use Rattle.kola_base.specs.declared.scan.Sort.TheVariants as sorts
 
@@ -33,6 +33,8 @@ tests b =
     ∷ (b == 61, Equal)
     ∷ (b == 33, Bang)
     ∷ (b == 124, Bar)
+    ∷ (b == 34, Quote)
+    ∷ (b == 92, Backslash)
     ∷ (one_of (codes "(){},;:.&~@*") b, Single)
     ∷ []
 
@@ -50,6 +52,17 @@ goes_on sorts.Word Digit = true
 goes_on sorts.Number Digit = true
 goes_on _ _ = false
 
+-- Bytes of these classes end a string, and only the last of them does: a quote that is not taken. Where taken is true a backslash
+-- takes the first of them; a line's end is never taken.
+abbrev pub closes : Bool → List Class → Bool
+closes taken [] = false
+closes taken (LineEnd ∷ ks) = false
+closes true (k ∷ ks) = closes false ks
+closes false (Quote ∷ []) = true
+closes false (Quote ∷ k ∷ ks) = false
+closes false (Backslash ∷ ks) = closes true ks
+closes false (k ∷ ks) = closes false ks
+
 -- the classes of a piece of each sort
 abbrev pub shape : Sort → List Class → Bool
 shape sorts.Blank (Blank ∷ []) = true
@@ -58,6 +71,7 @@ shape sorts.Comment (Slash ∷ Slash ∷ ks) = list_all (goes_on sorts.Comment) 
 shape sorts.Word (Letter ∷ ks) = list_all (goes_on sorts.Word) ks
 shape sorts.Number (Digit ∷ ks) = list_all (goes_on sorts.Number) ks
 shape sorts.Number (Minus ∷ Digit ∷ ks) = list_all (goes_on sorts.Number) ks
+shape sorts.Quoted (Quote ∷ ks) = closes false ks
 shape sorts.Sign (Single ∷ []) = true
 shape sorts.Sign (Less ∷ []) = true
 shape sorts.Sign (Less ∷ Equal ∷ []) = true

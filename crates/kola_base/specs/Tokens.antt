@@ -11,13 +11,15 @@ use Rattle.kola_base.specs.declared.lex.LexFault.{LexFault}
 use Rattle.kola_base.specs.declared.lex.LexFault.TheVariants.{At, Memory}
 use Rattle.kola_base.specs.Numbers.{number_value}
 use Rattle.kola_core.specs.Integers.{in_64}
+use Rattle.kola_base.specs.Strings.{string_fault, begins_with}
 use Rattle.kola_base.specs.Pieces.{piece, IsLongest, NoPiece}
 
 -- ---- cuts
 
--- a piece of the sort has no fault inside: a number is one of 64 bits
+-- a piece of the sort has no fault inside: a number is one of 64 bits, a string has its escapes and is UTF-8
 abbrev pub IsSound : Sort → List ℕ → Type 0
 IsSound sorts.Number bs = in_64 (number_value bs) ≡ true
+IsSound sorts.Quoted bs = string_fault bs ≡ None
 IsSound _ bs = Unit {0}
 
 -- the text is these pieces, each of so many bytes and the longest one at its place, and then the rest
@@ -33,6 +35,7 @@ kind_of sorts.Blank = None
 kind_of sorts.Comment = None
 kind_of sorts.Word = Some kinds.Word
 kind_of sorts.Number = Some kinds.Number
+kind_of sorts.Quoted = Some kinds.Quoted
 kind_of sorts.Sign = Some kinds.Sign
 
 abbrev pub token_of : Option Kind → ℕ → ℕ → List Token
@@ -56,19 +59,26 @@ pub record AreTokens (ts : List Token) (text : List ℕ) : Type 0 where
 
 -- ---- faults
 
--- no piece stands at the front of the rest, or the one that does has a fault
-abbrev pub IsStuck : List ℕ → LexWhy → Type 0
-IsStuck rest BadByte = (0 < length rest) × NoPiece rest
-IsStuck rest NumberTooLarge = (n : ℕ) × IsLongest sorts.Number n rest × (in_64 (number_value (take n rest)) ≡ false)
-IsStuck rest OpenString = ⊥
-IsStuck rest BadEscape = ⊥
-IsStuck rest NotUtf8 = ⊥
+-- a string at the front of the rest has this fault, n bytes behind its first one
+abbrev pub InString : List ℕ → ℕ → LexWhy → Type 0
+InString rest n why = (m : ℕ) × IsLongest sorts.Quoted m rest × (string_fault (take m rest) ≡ Some (n, why))
 
--- pieces lead to this place, and there nothing goes on
+-- no piece stands at the front of the rest, or the one that does has a fault, n bytes behind its first one
+abbrev pub IsStuck : List ℕ → ℕ → LexWhy → Type 0
+IsStuck rest n BadByte = (n ≡ 0) × (0 < length rest) × NoPiece rest × (begins_with 34 rest ≡ false)
+IsStuck rest n OpenString = (n ≡ 0) × NoPiece rest × (begins_with 34 rest ≡ true)
+IsStuck rest n NumberTooLarge = (n ≡ 0) × (m : ℕ) × IsLongest sorts.Number m rest × (in_64 (number_value (take m rest)) ≡ false)
+IsStuck rest n BadEscape = InString rest n BadEscape
+IsStuck rest n NotUtf8 = InString rest n NotUtf8
+
+-- pieces lead to a place, and nothing goes on there, for a fault that many bytes behind it
 pub record StopsAt (text : List ℕ) (at : ℕ) (why : LexWhy) : Type 0 where
   pub pieces : List (Sort × ℕ)
-  pub before : Cuts pieces text (drop at text)
-  pub stuck : IsStuck (drop at text) why
+  pub from : ℕ
+  pub behind : ℕ
+  pub before : Cuts pieces text (drop from text)
+  pub stuck : IsStuck (drop from text) behind why
+  pub is : at ≡ from + behind
 
 -- a fault that is answered is the text's
 abbrev pub IsFaultOf : List ℕ → LexFault → Type 0
@@ -84,7 +94,7 @@ bytes_of text t = slice_range text t.from t.to
 abbrev pub IsOfKind : Kind → List ℕ → Type 0
 IsOfKind kinds.Word bs = piece sorts.Word bs ≡ true
 IsOfKind kinds.Number bs = (piece sorts.Number bs ≡ true) × (in_64 (number_value bs) ≡ true)
-IsOfKind kinds.Quoted bs = ⊥
+IsOfKind kinds.Quoted bs = (piece sorts.Quoted bs ≡ true) × (string_fault bs ≡ None)
 IsOfKind kinds.Sign bs = piece sorts.Sign bs ≡ true
 IsOfKind kinds.End bs = bs ≡ []
 

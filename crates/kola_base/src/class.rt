@@ -17,6 +17,8 @@ pub enum Class {
     Equal,
     Bang,
     Bar,
+    Quote,
+    Backslash,
     /// A sign that begins no longer one.
     Single,
     /// A byte that stands in comments alone.
@@ -39,6 +41,8 @@ pub fn class_of(b: u8) -> Class
         b'=' => Class::Equal,
         b'!' => Class::Bang,
         b'|' => Class::Bar,
+        b'"' => Class::Quote,
+        b'\\' => Class::Backslash,
         b'(' | b')' | b'{' | b'}' | b',' | b';' | b':' | b'.' | b'&' | b'~' | b'@' | b'*' => {
             Class::Single
         }

@@ -1,15 +1,16 @@
 //! The tokens of a text.
 
-ghost use Rattle.std.specs.Prelude.{◌≡◌, [], ◌∷◌, ◌++◌, ◌<◌, ◌⊎◌, ℕ, List, length, take, IfOk, IfErr, OnOk, MatchResult};
+ghost use Rattle.std.specs.Prelude.{◌≡◌, [], ◌∷◌, ◌++◌, ◌<◌, ◌≤◌, ◌⊎◌, ℕ, List, length, take, IfOk, IfErr, OnOk, MatchResult};
 ghost use Rattle.std.specs.List.{All};
 ghost use Rattle.kola_base.specs.declared.lex.LexFault.TheVariants.{At, Memory};
 ghost use Rattle.kola_base.specs.declared.lex.LexWhy.{LexWhy};
 ghost use Rattle.kola_base.specs.declared.lex.Token.{Token};
-ghost use Rattle.kola_base.specs.Pieces.{IsLongest};
+ghost use Rattle.kola_base.specs.Pieces.{IsLongest, NoPiece};
 ghost use Rattle.kola_base.specs.Tokens.{kind_of, token_of, AreTokens, InOrder, IsFaultOf, IsSound, IsStuck, IsTokenIn, StopsAt};
 
 use crate::number::value_of;
 use crate::scan::{Sort, longest_piece};
+use crate::strings::string_fault;
 use std::alloc::{AllocError, Global};
 use thiserror::Error;
 
@@ -20,7 +21,7 @@ pub enum Kind {
     Word,
     /// Decimal digits, directly behind a `-` where the integer is negative.
     Number,
-    /// A text between double quotes on one line. No text has one so far.
+    /// A text between double quotes on one line, with its escapes.
     Quoted,
     /// One of `( ) { } < > <= >= = != , ; : . -> || | & ~ @ *`.
     Sign,
@@ -36,22 +37,22 @@ pub struct Token {
     pub to: usize,
 }
 
-/// Why a text has no tokens. A string is not read so far: a double quote outside a comment is `BadByte`.
+/// Why a text has no tokens.
 #[derive(Clone, Copy, Debug, PartialEq, Eq, Error)]
 pub enum LexWhy {
     /// No token begins with this byte and what follows it.
     #[error("BadByte")]
     BadByte,
-    /// A string does not end on its line.
+    /// A string does not end on its line; at its first quote.
     #[error("OpenString")]
     OpenString,
-    /// A string has an escape that is none.
+    /// A backslash in a string begins no escape; at the backslash.
     #[error("BadEscape")]
     BadEscape,
-    /// A number is not one of 64 bits.
+    /// A number is not one of 64 bits; at its first byte.
     #[error("NumberTooLarge")]
     NumberTooLarge,
-    /// A string has a byte that is of no UTF-8 character.
+    /// A string has a byte that is of no UTF-8 character; at that byte.
     #[error("NotUtf8")]
     NotUtf8,
 }
@@ -82,6 +83,7 @@ fn kind_of(sort: Sort) -> Option<Kind>
         Sort::Blank | Sort::Comment => None,
         Sort::Word => Some(Kind::Word),
         Sort::Number => Some(Kind::Number),
+        Sort::Quoted => Some(Kind::Quoted),
         Sort::Sign => Some(Kind::Sign),
     }
 }
@@ -101,18 +103,36 @@ fn push_token(
     Ok(())
 }
 
-/// The longest piece at the front, or why no text goes on so.
-fn next_piece(rest: &[u8]) -> Result<(Sort, usize), LexWhy>
-    requires { 0 < length rest.now }
+/// Why no piece stands at the front.
+fn no_piece(rest: &[u8]) -> LexWhy
+    requires some { 0 < length rest.now }
+    requires none { NoPiece rest.now }
+    ensures { IsStuck rest.now 0 result }
+{
+    if rest.first() == Some(&b'"') {
+        LexWhy::OpenString
+    } else {
+        LexWhy::BadByte
+    }
+}
+
+/// The longest piece at the front, or how far behind its first byte no text goes on, and why.
+fn next_piece(rest: &[u8]) -> Result<(Sort, usize), (usize, LexWhy)>
+    requires some { 0 < length rest.now }
     ensures ok { IfOk result (λ p. IsLongest p.0 p.1 rest.now) }
     ensures sound { IfOk result (λ p. IsSound p.0 (take p.1 rest.now)) }
-    ensures err { IfErr result (λ e. IsStuck rest.now e) }
+    ensures err { IfErr result (λ e. IsStuck rest.now e.0 e.1) }
+    ensures within { IfErr result (λ e. e.0 ≤ length rest.now) }
 {
     match longest_piece(rest) {
-        None => Err(LexWhy::BadByte),
+        None => Err((0, no_piece(rest))),
         Some((Sort::Number, len)) => match value_of(&rest[..len]) {
             Some(_) => Ok((Sort::Number, len)),
-            None => Err(LexWhy::NumberTooLarge),
+            None => Err((0, LexWhy::NumberTooLarge)),
+        },
+        Some((Sort::Quoted, len)) => match string_fault(&rest[..len]) {
+            None => Ok((Sort::Quoted, len)),
+            Some(fault) => Err(fault),
         },
         Some(other) => Ok(other),
     }
@@ -121,7 +141,8 @@ fn next_piece(rest: &[u8]) -> Result<(Sort, usize), LexWhy>
 /// The tokens of a text in order, with the end of the text as the last one.
 ///
 /// Blanks, tabs, CR, LF and comments from `//` to the line's end part tokens. Each token is the longest piece at its
-/// place. The first place where none stands, or where a number is not one of 64 bits, is the fault.
+/// place. The first place where none stands, where a number is not one of 64 bits, where a string has a backslash that begins no escape
+/// or a byte of no UTF-8 character, is the fault.
 pub fn tokens(alloc: Global, text: &[u8]) -> Result<Vec<Token>, LexFault>
     // The answer is the text's tokens, or its first fault, or want of memory.
     ensures found { IfOk result (λ v. AreTokens v.items text.now) }
@@ -145,7 +166,10 @@ pub fn tokens(alloc: Global, text: &[u8]) -> Result<Vec<Token>, LexFault>
         let (_, rest) = text.split_at(at);
         let (sort, len) = match next_piece(rest) {
             Ok(piece) => piece,
-            Err(why) => return Err(LexFault::At { at, why }),
+            Err((behind, why)) => {
+                let at = at + behind;
+                return Err(LexFault::At { at, why });
+            }
         };
         push_token(&mut out, kind_of(sort), at, at + len)?;
         at += len;
@@ -169,6 +193,7 @@ pub fn lexed_once(text: &[u8])
 mod tests {
     use super::*;
     use crate::number::number_of;
+    use crate::strings::quoted_of;
 
     fn token(kind: Kind, from: usize, to: usize) -> Token {
         Token { kind, from, to }
@@ -230,7 +255,17 @@ mod tests {
 
     #[test]
     fn finds_the_first_fault(rt: HostRuntime) {
-        let shown: [(&[u8], usize, LexWhy); 9] = [
+        let shown: [(&[u8], usize, LexWhy); 19] = [
+            (b"a \"b", 2, LexWhy::OpenString),
+            (b"\"a\nb\"", 0, LexWhy::OpenString),
+            (b"\"\\\n\"", 0, LexWhy::OpenString),
+            (b"\"a\\\"", 0, LexWhy::OpenString),
+            (b"1 \"a\\b\"", 4, LexWhy::BadEscape),
+            (b"\"\\u{110000}\"", 1, LexWhy::BadEscape),
+            (b"\"\\u{d800}\"", 1, LexWhy::BadEscape),
+            (b"\"\\u{0000041}\"", 1, LexWhy::BadEscape),
+            (b"\"\xc3\xa9\xff\\x\"", 3, LexWhy::NotUtf8),
+            (b"\"\\\xff\"", 1, LexWhy::BadEscape),
             (b"a ! b", 2, LexWhy::BadByte),
             (b"a - 1", 2, LexWhy::BadByte),
             (b"a / b", 2, LexWhy::BadByte),
@@ -266,6 +301,28 @@ mod tests {
                     assert_eq!(rt; number_of(text, token), want);
                 }
             }
+        }
+        Ok(())
+    }
+
+    #[test]
+    fn reads_strings(rt: HostRuntime) -> Result<(), LexFault> {
+        let shown: [(&[u8], &[u8]); 5] = [
+            (b"\"\"", b""),
+            (b"\"a b\"", b"a b"),
+            (b"\"\\\"\\\\\\n\\t\"", b"\"\\\n\t"),
+            (b"\"\\u{e9}\\u{10FFFF}\"", b"\xc3\xa9\xf4\x8f\xbf\xbf"),
+            (b"\"\xc3\xa9// x\"", b"\xc3\xa9// x"),
+        ];
+        for (text, want) in shown {
+            let mut strings = 0;
+            for token in &tokens(rt.alloc(), text)? {
+                if let Kind::Quoted = token.kind {
+                    strings += 1;
+                    assert_eq!(rt; quoted_of(rt.alloc(), text, token)?.as_slice(), want);
+                }
+            }
+            assert_eq!(rt; strings, 1);
         }
         Ok(())
     }

@@ -13,6 +13,7 @@ mod std_streams;
 #[cfg(test)]
 mod stream_tests;
 mod streams;
+mod strings;
 mod writing;
 
 pub use lex::{Kind, LexFault, LexWhy, Token, lexed_once, tokens};
@@ -22,4 +23,5 @@ pub use number::number_of;
 pub use reading::{ReadAllFault, read_all};
 pub use std_streams::{StdSink, StdSource};
 pub use streams::{Failed, Sink, Source};
+pub use strings::quoted_of;
 pub use writing::{WriteFault, write_all};

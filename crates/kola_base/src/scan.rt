@@ -1,9 +1,9 @@
 //! The longest piece at the front of a text.
 
-ghost use Rattle.std.specs.Prelude.{◌≡◌, ◌<◌, ◌^◌, ◌≤◌, length, map, IfSome, IfNone};
+ghost use Rattle.std.specs.Prelude.{◌≡◌, ◌<◌, ◌^◌, ◌≤◌, length, map, IfSome, IfNone, false, not, ◌&&◌};
 ghost use Rattle.std.specs.List.{prefix_len};
 ghost use Rattle.kola_base.specs.Pieces.{class, goes_on, IsLongest, NoPiece};
-ghost use Rattle.kola_base.specs.Scanning.{first_by, first_piece, next_class};
+ghost use Rattle.kola_base.specs.Scanning.{first_by, first_piece, next_class, is_line_end, is_quote, is_backslash, string_len};
 
 use crate::class::{Class, class_of};
 
@@ -14,6 +14,7 @@ pub enum Sort {
     Comment,
     Word,
     Number,
+    Quoted,
     Sign,
 }
 
@@ -22,7 +23,7 @@ fn goes_on(sort: Sort, class: Class) -> bool
     ensures { result ≡ goes_on sort class }
 {
     match sort {
-        Sort::Blank | Sort::Sign => false,
+        Sort::Blank | Sort::Quoted | Sort::Sign => false,
         Sort::Comment => !matches!(class, Class::LineEnd),
         Sort::Word => matches!(class, Class::Letter | Class::Digit),
         Sort::Number => matches!(class, Class::Digit),
@@ -39,6 +40,45 @@ fn run_len(sort: Sort, bytes: &[u8]) -> usize
         .map(|b| class_of(*b))
         .take_while(|class| goes_on(sort, *class))
         .count()
+}
+
+fn is_line_end(class: Class) -> bool
+    ensures { result ≡ is_line_end class }
+{
+    matches!(class, Class::LineEnd)
+}
+
+/// Whether a byte of the class ends a string, where a backslash may have taken it.
+fn ends_string(taken: bool, class: Class) -> bool
+    ensures { result ≡ (not taken && is_quote class) }
+{
+    !taken && matches!(class, Class::Quote)
+}
+
+/// Whether a byte of the class takes the next one, where a backslash may have taken it.
+fn takes_next(taken: bool, class: Class) -> bool
+    ensures { result ≡ (not taken && is_backslash class) }
+{
+    !taken && matches!(class, Class::Backslash)
+}
+
+/// How many bytes up to the quote that ends a string, from behind its first quote; none where the line ends before.
+fn string_len(rest: &[u8]) -> Option<usize>
+    ensures is { result ≡ string_len false (map class rest.now) }
+    ensures within { IfSome result (λ n. n ≤ length rest.now) }
+{
+    let mut taken = false;
+    for at in 0..rest.len() {
+        let class = class_of(rest[at]);
+        if is_line_end(class) {
+            return None;
+        }
+        if ends_string(taken, class) {
+            return Some(at + 1);
+        }
+        taken = takes_next(taken, class);
+    }
+    None
 }
 
 /// The class of the byte that comes next.
@@ -62,6 +102,10 @@ fn first_by(first: Class, next: Class, rest: &[u8]) -> Option<(Sort, usize)>
         (Class::Letter, _) => Some((Sort::Word, 1 + run_len(Sort::Word, rest))),
         (Class::Digit, _) | (Class::Minus, Class::Digit) => {
             Some((Sort::Number, 1 + run_len(Sort::Number, rest)))
+        }
+        (Class::Quote, _) => {
+            let len = string_len(rest)?;
+            Some((Sort::Quoted, 1 + len))
         }
         (Class::Less | Class::Greater | Class::Bang, Class::Equal)
         | (Class::Minus, Class::Greater)

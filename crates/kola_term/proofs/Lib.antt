@@ -11,3 +11,4 @@ pub mod Paths
 pub mod Kept
 pub mod Faulty
 pub mod Unique
+mod AlgebraExamples

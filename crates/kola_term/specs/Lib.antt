@@ -7,3 +7,4 @@ pub mod Places
 pub mod Faults
 pub mod Agreement
 pub mod TermView
+pub mod ContextView

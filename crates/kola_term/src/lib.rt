@@ -4,7 +4,9 @@
 mod constant;
 mod laws;
 pub mod make;
+mod meta;
 mod term;
+mod unlimited;
 
 pub use constant::{Const, LitSet};
 pub use laws::{
@@ -12,4 +14,6 @@ pub use laws::{
     parts_of_one_type_keep_the_type, typed_functions_keep_types,
     typed_terms_are_typed_at_each_place,
 };
+pub use meta::{MetaCtx, MetaTy};
 pub use term::{Fun, Pred, Term};
+pub use unlimited::{const_type, out_type_without_limit, pred_ok_without_limit};

@@ -5,7 +5,7 @@ use Rattle.std.specs.Option.{option_and_then}
 use Rattle.std.specs.Str.{bytes_eq}
 use Rattle.std.proofs.lemmas.List.{append_assoc, append-nil}
 use Rattle.std.proofs.lemmas.Slice.Eq.{bytes_eq-Decides}
-use Rattle.kola_base.specs.Lexemes.{Lexeme, LWord, LNumber, LSign}
+use Rattle.kola_base.specs.Lexemes.{Lexeme, LWord, LNumber, LString, LSign}
 use Rattle.kola_top.specs.Names.{is_name}
 use Rattle.kola_top.specs.SelectForm.{SelectForm, IsForm, IsReading, Says, spelled, numbers_spelled, bound_spelled}
 use Rattle.kola_top.specs.FormReader.{word, sign, name, number, behind, behind_sign, range, next_number, closed_numbers, more_numbers, numbers, last_number, bound, head, form}
@@ -20,6 +20,7 @@ unfolding more_numbers
 more_numbers-next ns [] n ms e = cc
 more_numbers-next ns (LWord bytes ∷ ls) n ms e = cc
 more_numbers-next ns (LNumber k ∷ ls) n ms e = cc
+more_numbers-next ns (LString b ∷ ls) n ms e = cc
 more_numbers-next ns (LSign bytes ∷ []) n ms e = none (bytes_eq bytes (codes ",")) e
   where
     none : {A : Type 0} (q : Bool) → option_and_then number (cond q (Some []) None) ≡ Some (n, ms) → A
@@ -33,6 +34,11 @@ more_numbers-next ns (LSign bytes ∷ LWord b ∷ ls) n ms e = none (bytes_eq by
 more_numbers-next ns (LSign bytes ∷ LSign b ∷ ls) n ms e = none (bytes_eq bytes (codes ",")) e
   where
     none : {A : Type 0} (q : Bool) → option_and_then number (cond q (Some (LSign b ∷ ls)) None) ≡ Some (n, ms) → A
+    none true e = cc
+    none false e = cc
+more_numbers-next ns (LSign bytes ∷ LString b ∷ ls) n ms e = none (bytes_eq bytes (codes ",")) e
+  where
+    none : {A : Type 0} (q : Bool) → option_and_then number (cond q (Some (LString b ∷ ls)) None) ≡ Some (n, ms) → A
     none true e = cc
     none false e = cc
 more_numbers-next ns (LSign bytes ∷ LNumber k ∷ ls) n ms e = some (bytes_eq bytes (codes ",")) e
@@ -62,6 +68,7 @@ word_is : (w : List ℕ) (ls ms : List Lexeme) → word w ls ≡ Some ms → ls 
 word_is w [] ms e = cc
 word_is w (LNumber n ∷ ls) ms e = cc
 word_is w (LSign b ∷ ls) ms e = cc
+word_is w (LString b ∷ ls) ms e = cc
 word_is w (LWord b ∷ ls) ms e = at (bytes_eq b w) refl e
   where
     at : (q : Bool) → bytes_eq b w ≡ q → cond q (Some ls) None ≡ Some ms → LWord b ∷ ls ≡ LWord w ∷ ms
@@ -72,6 +79,7 @@ sign_is : (w : List ℕ) (ls ms : List Lexeme) → sign w ls ≡ Some ms → ls 
 sign_is w [] ms e = cc
 sign_is w (LNumber n ∷ ls) ms e = cc
 sign_is w (LWord b ∷ ls) ms e = cc
+sign_is w (LString b ∷ ls) ms e = cc
 sign_is w (LSign b ∷ ls) ms e = at (bytes_eq b w) refl e
   where
     at : (q : Bool) → bytes_eq b w ≡ q → cond q (Some ls) None ≡ Some ms → LSign b ∷ ls ≡ LSign w ∷ ms
@@ -82,6 +90,7 @@ name_is : (ls : List Lexeme) (v : List ℕ × List Lexeme) → name ls ≡ Some 
 name_is [] v e = cc
 name_is (LNumber n ∷ ls) v e = cc
 name_is (LSign b ∷ ls) v e = cc
+name_is (LString b ∷ ls) v e = cc
 name_is (LWord b ∷ ls) v e = at (is_name b) refl e
   where
     at : (q : Bool) → is_name b ≡ q → cond q (Some (b, ls)) None ≡ Some v → (is_name v.0 ≡ true) × (LWord b ∷ ls ≡ LWord v.0 ∷ v.1)
@@ -92,12 +101,14 @@ number_is : (ls : List Lexeme) (n : ℤ × List Lexeme) → number ls ≡ Some n
 number_is [] n e = cc
 number_is (LWord b ∷ ls) n e = cc
 number_is (LSign b ∷ ls) n e = cc
+number_is (LString b ∷ ls) n e = cc
 number_is (LNumber k ∷ ls) n e = ap (λ (x : ℤ × List Lexeme). LNumber x.0 ∷ x.1) (same_some e)
 
 last_number_is : (ls : List Lexeme) (n : ℤ) → last_number ls ≡ Some n → ls ≡ LNumber n ∷ []
 last_number_is [] n e = cc
 last_number_is (LWord b ∷ ls) n e = cc
 last_number_is (LSign b ∷ ls) n e = cc
+last_number_is (LString b ∷ ls) n e = cc
 last_number_is (LNumber k ∷ []) n e = ap (λ x. LNumber x ∷ []) (same_some e)
 last_number_is (LNumber k ∷ l ∷ ls) n e = cc
 
@@ -269,6 +280,7 @@ more_found ns [] [] = ap (λ x. Some (x, [])) (sym (append-nil ns))
 more_found ns [] (LWord b ∷ ls) = ap (λ x. Some (x, LWord b ∷ ls)) (sym (append-nil ns))
 more_found ns [] (LNumber n ∷ ls) = ap (λ x. Some (x, LNumber n ∷ ls)) (sym (append-nil ns))
 more_found ns [] (LSign b ∷ ls) = ap (λ x. Some (x, LSign b ∷ ls)) (sym (append-nil ns))
+more_found ns [] (LString b ∷ ls) = ap (λ x. Some (x, LString b ∷ ls)) (sym (append-nil ns))
 more_found ns (m ∷ ms) ls = more_found (ns ++ m ∷ []) ms ls ∙ ap (λ x. Some (x, ls)) (append_assoc ns (m ∷ []) ms)
 
 numbers_found : (ns : List ℤ) (ls : List Lexeme) → 0 < length ns → numbers (numbers_spelled ns ++ (LSign (codes ")") ∷ ls)) ≡ Some (ns, ls)

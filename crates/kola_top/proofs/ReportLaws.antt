@@ -1,15 +1,13 @@
 -- The report on a query of the form, of what was computed from its set.
-use Rattle.std.proofs.Common.{◌≡◌, ℕ, List, [], filter, map, length, sym, ap, ◌∙◌}
-use Rattle.kola_values.specs.Values.{ValueTree, VInt, VUnit, VSet, of_items}
+use Rattle.std.proofs.Common.{◌≡◌, ℕ, List, filter, map, length, sym, ap, ◌∙◌}
+use Rattle.kola_values.specs.Values.{ValueTree, VInt, VSet, of_items}
 use Rattle.kola_values.specs.Sets.{canon}
 use Rattle.kola_values.specs.Spelling.{value_spelling}
-use Rattle.kola_values.specs.Databases.{Classes, Objects}
 use Rattle.kola_term.specs.Terms.{CSet, FId, FSnd, FComp, FPair, FK, FIter}
-use Rattle.kola_term.specs.Visits.{visits}
 use Rattle.kola_text.specs.Spelling.{fun_spelling}
 use Rattle.kola_top.specs.SelectForm.{SelectForm}
 use Rattle.kola_top.specs.SelectMeaning.{value_of_form, translation, visits_of_form, condition, is_below}
-use Rattle.kola_top.specs.Report.{Report, report_text}
+use Rattle.kola_top.specs.Report.{report_text}
 use Rattle.kola_top.specs.Answer.{report_of_form, unchanged_report}
 
 three : (p q : List ℕ) (m n : ℕ) (r s : List ℕ) → p ≡ q → m ≡ n → r ≡ s → report_text (unchanged_report p m r) ≡ report_text (unchanged_report q n s)

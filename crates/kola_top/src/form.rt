@@ -14,6 +14,8 @@ use std::alloc::{AllocError, Global};
 pub enum Lexeme<'a> {
     Word(&'a [u8]),
     Number(i64),
+    /// A string, with its quotes.
+    Quoted(&'a [u8]),
     Sign(&'a [u8]),
 }
 

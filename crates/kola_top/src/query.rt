@@ -21,7 +21,8 @@ fn push_lexeme<'a>(out: &mut Vec<Lexeme<'a>>, text: &'a [u8], token: &Token) -> 
         Kind::Word => out.push(Lexeme::Word(bytes))?,
         Kind::Number => out.push(Lexeme::Number(number_of(text, token)))?,
         Kind::Sign => out.push(Lexeme::Sign(bytes))?,
-        Kind::Quoted | Kind::End => {}
+        Kind::Quoted => out.push(Lexeme::Quoted(bytes))?,
+        Kind::End => {}
     }
     Ok(())
 }

@@ -20,6 +20,10 @@ pub mod Sorting
 pub mod KeyedObjects
 pub mod KeyLoops
 pub mod Schemas
+pub mod Places
+pub mod Reordered
+pub mod Stored
 pub mod NameTests
 mod SchemaExamples
 mod MeetExamples
+mod DbExamples

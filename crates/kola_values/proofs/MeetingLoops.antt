@@ -2,8 +2,7 @@
 use Rattle.std.proofs.Common.{◌≡◌, ℕ, ◌+◌, ◌-◌, ◌<◌, ◌≤◌, Bool, true, false, not, ◌&&◌, ◌||◌, List, [], ◌∷◌, length, get_or, map, take, drop, refl, sym, ap, ◌∙◌, arith, cond, Option, Some, None}
 use mathlib.Core.Bool.{and-false}
 use Rattle.std.specs.List.{list_any, list_all, find}
-use Rattle.std.specs.Option.{option_map, option_copied}
-use Rattle.std.specs.Borrow.{Bor}
+use Rattle.std.specs.Option.{option_map}
 use Rattle.std.specs.Str.{bytes_eq}
 use Rattle.std.proofs.lemmas.List.{drop_all, drop_more, take_all, length-drop}
 use Rattle.std.proofs.lemmas.List.Folds.{list_all-map}
@@ -89,10 +88,6 @@ values_seen (o ∷ os) = ap (λ l. VObj o.class o.id ∷ l) (values_seen os)
 pub any_seen : {X A : Type 0} (v : X → A) (q : A → Bool) (xs : List X) → list_any (λ x. q (v x)) xs ≡ list_any q (map v xs)
 any_seen v q [] = refl
 any_seen v q (x ∷ xs) = ap (λ b. q (v x) || b) (any_seen v q xs)
-
-pub at_copied : {X Y : Type 0} (v : X → Y) (r : Option (Bor X)) → option_map (λ (b : Bor X). v b.now) r ≡ option_map v (option_copied r)
-at_copied v None = refl
-at_copied v (Some b) = refl
 
 module _ {T A : Type 0} (v : T → A) where
   found : (es : List (Name × T)) (n : List ℕ) → option_map (λ (e : Name × T). v e.1) (find (λ (e : Name × T). bytes_eq n e.0) es) ≡ look_up n (map (λ (e : Name × T). (e.0, v e.1)) es)

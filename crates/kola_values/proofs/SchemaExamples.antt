@@ -4,7 +4,7 @@ use Rattle.kola_values.specs.Types.{TypeTree, TInt, TStr, TUnit, TClass, TVar, T
 use Rattle.kola_values.specs.Databases.{Class, Classes, attribute_type, extent_class}
 use Rattle.kola_values.specs.Schemas.{is_schema, extent_named, key_at}
 
-abbrev car_type : TypeTree
+abbrev pub car_type : TypeTree
 car_type = TSet (TClass (codes "Vehicle"))
 
 abbrev pub person : List (List (List ℕ)) → Class
@@ -19,7 +19,7 @@ abbrev pub person_keys : List (List (List ℕ))
 person_keys = (codes "ssn" ∷ []) ∷ (codes "first" ∷ codes "last" ∷ []) ∷ []
 
 -- a class with one attribute
-abbrev vehicle : List ℕ → List ℕ → TypeTree → Class
+abbrev pub vehicle : List ℕ → List ℕ → TypeTree → Class
 vehicle name extent t = record { name = name; extent = extent; attributes = (codes "year", t) ∷ []; keys = [] }
 
 abbrev pub sample : Classes

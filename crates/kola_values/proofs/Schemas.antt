@@ -1,18 +1,20 @@
 -- What the program's walks over classes and attributes compute.
 use Rattle.std.proofs.Common.{◌≡◌, ℕ, ◌+◌, ◌<◌, Bool, true, false, not, ◌&&◌, ◌||◌, List, [], ◌∷◌, Option, Some, length, get_or, map, take, drop, ◌-◌, refl, sym, ap, ◌∙◌, arith, cond}
-use Rattle.std.specs.List.{list_any, list_all, find}
+use Rattle.std.specs.List.{list_any, list_all}
 use Rattle.std.specs.Option.{option_map, option_and_then}
 use Rattle.std.specs.Str.{bytes_eq}
 use Rattle.std.proofs.lemmas.List.{drop_more, take_all, length-drop}
 use Rattle.std.proofs.lemmas.List.Folds.{list_all-map}
 use Rattle.kola_core.specs.declared.name.Name.{Name}
 use Rattle.kola_values.specs.Types.{TypeTree}
-use Rattle.kola_values.specs.Databases.{Class, Classes, attribute_type, extent_class, look_up}
+use Rattle.kola_values.specs.Databases.{Class, Classes, attribute_type, look_up}
 use Rattle.kola_values.specs.Schemas.{is_listed, are_distinct, names_of, class_names, extent_names, is_stored_type, is_key, is_class, is_schema, class_named}
+use Rattle.kola_values.specs.Sets.{Each}
 use Rattle.kola_values.specs.Views.{type_tree, type_entry}
 use Rattle.kola_values.specs.SchemaViews.{class_tree}
 use Rattle.kola_values.specs.declared.ty.Ty.{Ty}
 use Rattle.kola_values.specs.declared.schema.ClassDef.{ClassDef}
+use Rattle.kola_values.proofs.SameTypes.{both_true}
 
 rest_taken : {X : Type 0} (xs : List X) (i : ℕ) → take (length xs - i) (drop i xs) ≡ drop i xs
 rest_taken xs i = take_all (length xs - i) (drop i xs) (omega (arith, length-drop i xs))
@@ -92,23 +94,36 @@ repeated_class cs p =
     (λ j. sym p j && (are_distinct (map (λ (c : ClassDef). c.extent) cs) && list_all (λ (c : ClassDef). is_class (class_names (map class_tree cs)) (class_tree c)) cs))
     ∙ schema_seen cs
 
+-- ---- what a schema's tables are made of
+
+all_parts : (a b c : Bool) → (a && (b && c)) ≡ true → (a ≡ true) × (b ≡ true) × (c ≡ true)
+all_parts true true true h = (refl, refl, refl)
+all_parts true true false h = absurd (cc)
+all_parts true false c h = absurd (cc)
+all_parts false b c h = absurd (cc)
+
+pub parts_of_schema : (S : Classes) → is_schema S ≡ true → (are_distinct (class_names S) ≡ true) × (are_distinct (extent_names S) ≡ true) × (list_all (is_class (class_names S)) S ≡ true)
+parts_of_schema S h = all_parts (are_distinct (class_names S)) (are_distinct (extent_names S)) (list_all (is_class (class_names S)) S) h
+
+module _ (cs : List ClassDef) (h : is_schema (map class_tree cs) ≡ true) where
+  pub class_names_apart : are_distinct (map (λ (c : ClassDef). c.name) cs) ≡ true
+  class_names_apart = ap are_distinct (class_names_seen cs) ∙ (parts_of_schema (map class_tree cs) h).0
+
+  pub extent_names_apart : are_distinct (map (λ (c : ClassDef). c.extent) cs) ≡ true
+  extent_names_apart = ap are_distinct (extent_names_seen cs) ∙ (parts_of_schema (map class_tree cs) h).1
+
+each_apart : (ns : List (List ℕ)) (ks : Classes) → list_all (is_class ns) ks ≡ true → Each (λ (k : Class). are_distinct (names_of k.attributes) ≡ true) ks
+each_apart ns [] h = tt
+each_apart ns (k ∷ ks) h = let p = both_true (is_class ns k) (list_all (is_class ns) ks) h in ((all_parts (are_distinct (names_of k.attributes)) (list_all (λ (e : List ℕ × TypeTree). is_stored_type ns e.1) k.attributes) (list_all (is_key (names_of k.attributes)) k.keys) p.0).0, each_apart ns ks p.1)
+
+pub attribute_names_apart : (S : Classes) → is_schema S ≡ true → Each (λ (k : Class). are_distinct (names_of k.attributes) ≡ true) S
+attribute_names_apart S h = each_apart (class_names S) S (parts_of_schema S h).2
+
 -- ---- look-ups
 
-choose : {X Y : Type 0} (v : X → Y) (b : Bool) (x : X) (r : Option X) (o : Option Y) → option_map v r ≡ o → option_map v (cond b (Some x) r) ≡ cond b (Some (v x)) o
+pub choose : {X Y : Type 0} (v : X → Y) (b : Bool) (x : X) (r : Option X) (o : Option Y) → option_map v r ≡ o → option_map v (cond b (Some x) r) ≡ cond b (Some (v x)) o
 choose v true x r o h = refl
 choose v false x r o h = h
-
-found_named : (cs : List ClassDef) (n : List ℕ) → option_map class_tree (find (λ (c : ClassDef). bytes_eq n c.name) cs) ≡ class_named (map class_tree cs) n
-found_named [] n = refl
-found_named (c ∷ cs) n = choose class_tree (bytes_eq n c.name) c (find (λ (d : ClassDef). bytes_eq n d.name) cs) (class_named (map class_tree cs) n) (found_named cs n)
-
-found_extent : (cs : List ClassDef) (n : List ℕ) → option_map (λ (c : ClassDef). c.name) (find (λ (c : ClassDef). bytes_eq n c.extent) cs) ≡ extent_class (map class_tree cs) n
-found_extent [] n = refl
-found_extent (c ∷ cs) n = choose (λ (d : ClassDef). d.name) (bytes_eq n c.extent) c (find (λ (d : ClassDef). bytes_eq n d.extent) cs) (extent_class (map class_tree cs) n) (found_extent cs n)
-
-found_entry : (es : List (Name × Ty)) (n : List ℕ) → option_map (λ (e : Name × Ty). type_tree e.1) (find (λ (e : Name × Ty). bytes_eq n e.0) es) ≡ look_up n (map type_entry es)
-found_entry [] n = refl
-found_entry (e ∷ es) n = choose (λ (d : Name × Ty). type_tree d.1) (bytes_eq n e.0) e (find (λ (d : Name × Ty). bytes_eq n d.0) es) (look_up n (map type_entry es)) (found_entry es n)
 
 choose_then : {X Y : Type 0} (v : X → Option Y) (b : Bool) (x : X) (r : Option X) (o : Option Y) → option_and_then v r ≡ o → option_and_then v (cond b (Some x) r) ≡ cond b (v x) o
 choose_then v true x r o h = refl
@@ -117,13 +132,3 @@ choose_then v false x r o h = h
 pub attribute_of_class : (S : Classes) (c a : List ℕ) → option_and_then (λ (k : Class). look_up a k.attributes) (class_named S c) ≡ attribute_type S c a
 attribute_of_class [] c a = refl
 attribute_of_class (k ∷ ks) c a = choose_then (λ (d : Class). look_up a d.attributes) (bytes_eq c k.name) k (class_named ks c) (attribute_type ks c a) (attribute_of_class ks c a)
-
-module _ (cs : List ClassDef) (us : Classes) (e : map class_tree cs ≡ us) (n : List ℕ) (r : Option ClassDef) where
-  pub class_by_name_seen : r ≡ find (λ (c : ClassDef). bytes_eq n c.name) cs → option_map class_tree r ≡ class_named us n
-  class_by_name_seen h = ap (option_map class_tree) h ∙ found_named cs n ∙ ap (λ l. class_named l n) e
-
-  pub class_by_extent_seen : r ≡ find (λ (c : ClassDef). bytes_eq n c.extent) cs → option_map (λ (c : ClassDef). c.name) r ≡ extent_class us n
-  class_by_extent_seen h = ap (option_map (λ (c : ClassDef). c.name)) h ∙ found_extent cs n ∙ ap (λ l. extent_class l n) e
-
-pub entry_seen : (es : List (Name × Ty)) (us : List (List ℕ × TypeTree)) → map type_entry es ≡ us → (n : List ℕ) (r : Option (Name × Ty)) → r ≡ find (λ (e : Name × Ty). bytes_eq n e.0) es → option_map (λ (e : Name × Ty). type_tree e.1) r ≡ look_up n us
-entry_seen es us e n r h = ap (option_map (λ (d : Name × Ty). type_tree d.1)) h ∙ found_entry es n ∙ ap (look_up n) e

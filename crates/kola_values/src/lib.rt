@@ -2,10 +2,13 @@
 #![tactic(auto)]
 
 mod copies;
+mod db;
+mod db_laws;
 mod encoding;
 mod keyed;
 mod laws;
 mod meets;
+mod name_table;
 mod object;
 mod objects;
 mod order;
@@ -16,6 +19,8 @@ mod text;
 mod ty;
 mod value;
 
+pub use db::Db;
+pub use db_laws::stored_databases_keep_their_meaning;
 pub use encoding::{
     decode_by, encode, encode_type, encoding_goes_through_sets, encoding_has_an_inverse,
     encoding_keeps_order,

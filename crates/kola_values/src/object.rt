@@ -1,14 +1,14 @@
-//! Objects of a database.
+//! Objects with the values of their attributes.
 use crate::ValueFields;
 use kola_core::Name;
 
-/// An object of a database.
+/// An object, as a database holds it.
 #[derive(Drop)]
 pub struct ObjectDef {
-    /// The name of its class.
+    /// The name of the object's class.
     pub class: Name,
-    /// Its id, which tells it from the other objects of its class.
+    /// The id, which no other object of the class has.
     pub id: u32,
-    /// The values of its attributes.
+    /// The attributes with their values.
     pub values: ValueFields,
 }

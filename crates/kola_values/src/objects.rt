@@ -11,9 +11,9 @@ ghost use Rattle.kola_values.specs.MeetsTests.{typed_by, fields_typed_by, is_the
 ghost use Rattle.kola_values.specs.Views.{type_tree, type_entry, value_tree, value_entry};
 ghost use Rattle.kola_values.specs.ObjectViews.{object_tree};
 
+use crate::db::{cmp_object, cmp_objects};
 use crate::{ObjectDef, Ty, Value};
 use kola_core::Name;
-use std::cmp::Ordering;
 
 // What tells whether there is an object.
 pub(crate) trait Holds {
@@ -54,18 +54,12 @@ impl Holds for Sorted<'_> {
     }
 }
 
-fn cmp_object(object: &ObjectDef, class: &Name, id: u32) -> Ordering
-    ensures { result ≡ cmp (VObj object.now.class object.now.id) (VObj class.now id) }
-{
-    object.class.cmp_bytes(class).then(object.id.cmp(&id))
-}
-
 // Whether no two objects of a sorted list are the same.
 pub(crate) fn objects_rise(objects: &[ObjectDef]) -> bool
     requires { IsSortedBy (λ o p. is_lt (cmp (VObj o.class o.id) (VObj p.class p.id))) objects.now }
     ensures { result ≡ no_two same_object (map object_tree objects.now) }
 {
-    objects.is_sorted_by(|o, p| cmp_object(o, &p.class, p.id).is_lt())
+    objects.is_sorted_by(|o, p| cmp_objects(o, p).is_lt())
 }
 
 // Any object.

@@ -1,13 +1,15 @@
-//! Schemas: lists of classes with their extents, attributes and keys.
+//! Schemas: lists of classes with their extents, attributes and keys, each found by its name.
 ghost use Rattle.std.specs.Prelude.{◌≡◌, ◌∷◌, true, map, slice_get, IfOk};
-ghost use Rattle.std.specs.List.{list_any, list_all, find};
+ghost use Rattle.std.specs.List.{list_any, list_all};
 ghost use Rattle.std.specs.Option.{option_map, option_copied};
 ghost use Rattle.std.specs.Str.{bytes_eq};
 ghost use Rattle.kola_values.specs.Databases.{attribute_type, extent_class, look_up};
+ghost use Rattle.kola_values.specs.Sets.{Each};
 ghost use Rattle.kola_values.specs.Schemas.{is_listed, are_distinct, names_of, class_names, extent_names, is_stored_type, is_key, is_class, is_schema, class_named, extent_named, key_at};
 ghost use Rattle.kola_values.specs.Views.{type_tree, type_entry, type_entry_at};
 ghost use Rattle.kola_values.specs.SchemaViews.{class_tree, class_at, type_at};
 
+use crate::name_table::NameTable;
 use crate::{Fields, Ty};
 use kola_core::{Items, Memory, Name, Names};
 use std::alloc::Global;
@@ -142,10 +144,111 @@ pub fn classes_ok(classes: &[ClassDef]) -> bool
     class_names_are_distinct(classes) && extent_names_are_distinct(classes) && are_classes(classes)
 }
 
-/// A schema: classes that pass the test of `classes_ok`. Contracts see it as their list.
+// The names of classes, in their order.
+fn class_table(alloc: Global, classes: &[ClassDef]) -> Result<NameTable, Memory>
+    requires { are_distinct (map (λ c. c.name) classes.now) ≡ true }
+    ensures { IfOk result (λ t. t ≡ map (λ c. c.name) classes.now) }
+{
+    let mut names = NameTable::new(alloc);
+    for class in classes {
+        names.push(&class.name)?;
+    }
+    Ok(names)
+}
+
+// The names of the extents of classes, in their order.
+fn extent_table(alloc: Global, classes: &[ClassDef]) -> Result<NameTable, Memory>
+    requires { are_distinct (map (λ c. c.extent) classes.now) ≡ true }
+    ensures { IfOk result (λ t. t ≡ map (λ c. c.extent) classes.now) }
+{
+    let mut names = NameTable::new(alloc);
+    for class in classes {
+        names.push(&class.extent)?;
+    }
+    Ok(names)
+}
+
+// The names of attributes, in their order.
+fn attribute_table(alloc: Global, entries: &[(Name, Ty)]) -> Result<NameTable, Memory>
+    requires { are_distinct (map (λ e. e.0) entries.now) ≡ true }
+    ensures { IfOk result (λ t. t ≡ map (λ e. e.0) entries.now) }
+{
+    let mut names = NameTable::new(alloc);
+    for entry in entries {
+        names.push(&entry.0)?;
+    }
+    Ok(names)
+}
+
+/// A class with a table of its attributes. Contracts see it as the class.
+#[derive(Drop)]
+pub struct IndexedClass {
+    class: ClassDef,
+    attributes: NameTable,
+}
+
+impl Model for IndexedClass {
+    ghost use Rattle.std.specs.Coded.{codes};
+    ghost use Rattle.kola_values.specs.Databases.{Class};
+    ghost use Rattle.kola_values.specs.Models.TypeCode.{type_code};
+
+    ghost Value = { Class };
+
+    ghost coded = { Prim.hlevel (codes, type_code) };
+
+    ghost use Rattle.std.specs.Prelude.{◌≡◌};
+    ghost use Rattle.kola_values.specs.Schemas.{names_of};
+    ghost use Rattle.kola_values.specs.SchemaViews.{class_tree};
+
+    ghost view = { λ a. class_tree a.class };
+
+    ghost invariant = { λ a. a.attributes ≡ names_of a.class.attributes };
+}
+
+impl IndexedClass {
+    fn make(alloc: Global, class: ClassDef) -> Result<IndexedClass, Memory>
+        requires { are_distinct (names_of class.attributes) ≡ true }
+        ensures { IfOk result (λ c. c ≡ class_tree class) }
+    {
+        let attributes = attribute_table(alloc, class.attributes.as_slice())?;
+        Ok(IndexedClass { class, attributes })
+    }
+
+    /// The class.
+    pub fn get(&self) -> &ClassDef
+        ensures { class_tree result.now ≡ self.now }
+    {
+        &self.class
+    }
+
+    fn attribute(&self, a: &Name) -> Option<&Ty>
+        ensures { option_map type_at result ≡ look_up a.now self.now.attributes }
+    {
+        let place = self.attributes.place(a)?;
+        let entry = self.class.attributes.get(place)?;
+        Some(&entry.1)
+    }
+}
+
+// The classes, each with a table of its attributes.
+fn indexed(alloc: Global, classes: Vec<ClassDef>) -> Result<Vec<IndexedClass>, Memory>
+    requires { Each (λ k. are_distinct (names_of k.attributes) ≡ true) (map class_tree classes.items) }
+    ensures { IfOk result (λ v. v.items ≡ map class_tree classes.items) }
+{
+    let mut all = Vec::new(alloc);
+    for class in classes {
+        all.push(IndexedClass::make(alloc, class)?)?;
+    }
+    Ok(all)
+}
+
+/// A schema: classes that pass the test of `classes_ok`. Contracts see it as their list. A class is found by its name and by its extent's
+/// name, and an attribute of a class by its name, each in constant expected time.
 #[derive(Drop)]
 pub struct Schema {
-    classes: Vec<ClassDef>,
+    classes: Vec<IndexedClass>,
+    names: NameTable,
+    extents: NameTable,
 }
 
 impl Model for Schema {
@@ -157,41 +260,31 @@ impl Model for Schema {
 
     ghost coded = { Prim.hlevel (codes, type_code) };
 
-    ghost use Rattle.std.specs.Prelude.{map, true, ◌≡◌};
-    ghost use Rattle.kola_values.specs.Schemas.{is_schema};
-    ghost use Rattle.kola_values.specs.SchemaViews.{class_tree};
+    ghost use Rattle.std.specs.Prelude.{true, ◌≡◌};
+    ghost use Rattle.kola_values.specs.Schemas.{is_schema, class_names, extent_names};
 
-    ghost view = { λ a. map class_tree a.classes.items };
+    ghost view = { λ a. a.classes.items };
 
-    ghost invariant = { λ a. is_schema (map class_tree a.classes.items) ≡ true };
-}
-
-fn class_by_name<'a>(classes: &'a [ClassDef], name: &Name) -> Option<&'a ClassDef>
-    ensures { option_copied result ≡ find (λ c. bytes_eq name.now c.name) classes.now }
-{
-    classes.iter().find(|class| name.is(&class.name))
-}
-
-fn class_by_extent<'a>(classes: &'a [ClassDef], extent: &Name) -> Option<&'a ClassDef>
-    ensures { option_copied result ≡ find (λ c. bytes_eq extent.now c.extent) classes.now }
-{
-    classes.iter().find(|class| extent.is(&class.extent))
-}
-
-fn entry_by_name<'a>(entries: &'a [(Name, Ty)], name: &Name) -> Option<&'a (Name, Ty)>
-    ensures { option_copied result ≡ find (λ e. bytes_eq name.now e.0) entries.now }
-{
-    entries.iter().find(|entry| name.is(&entry.0))
+    ghost invariant = { λ a. (is_schema a.classes.items ≡ true)
+        × (a.names ≡ class_names a.classes.items)
+        × (a.extents ≡ extent_names a.classes.items) };
 }
 
 impl Schema {
-    /// The schema of these classes, in their order. They must pass the test of `classes_ok`.
+    /// The schema of these classes, in their order. They must pass the test of `classes_ok`. It makes the tables by which a class and an
+    /// attribute are found.
     pub fn make(alloc: Global, classes: Vec<ClassDef>) -> Result<Schema, Memory>
         requires { is_schema (map class_tree classes.items) ≡ true }
         ensures { IfOk result (λ s. s ≡ map class_tree classes.items) }
     {
-        let _alloc = alloc;
-        Ok(Schema { classes })
+        let names = class_table(alloc, classes.as_slice())?;
+        let extents = extent_table(alloc, classes.as_slice())?;
+        let classes = indexed(alloc, classes)?;
+        Ok(Schema {
+            classes,
+            names,
+            extents,
+        })
     }
 
     /// What every schema keeps: its classes pass the test of `classes_ok`. It does nothing else.
@@ -205,46 +298,69 @@ impl Schema {
     pub fn class_at(&self, n: usize) -> Option<&ClassDef>
         ensures { option_map class_at result ≡ slice_get self.now n }
     {
-        self.classes.get(n)
+        let class = self.at(n)?;
+        Some(class.get())
     }
 
-    /// The class of the name; `None` exactly where there is none.
+    /// The class of the name; `None` exactly where there is none. It takes constant expected time.
     pub fn class_named(&self, class: &Name) -> Option<&ClassDef>
         ensures { option_map class_at result ≡ class_named self.now class.now }
     {
-        class_by_name(&self.classes, class)
+        let class = self.by_name(class)?;
+        Some(class.get())
     }
 
-    /// The class whose extent has the name; `None` exactly where there is none.
+    /// The class whose extent has the name; `None` exactly where there is none. It takes constant expected time.
     pub fn class_of(&self, extent: &Name) -> Option<&Name>
         ensures { option_copied result ≡ extent_class self.now extent.now }
     {
-        let class = class_by_extent(&self.classes, extent)?;
-        Some(&class.name)
+        let place = self.extents.place(extent)?;
+        let class = self.at(place)?;
+        Some(&class.get().name)
     }
 
-    /// The extent of the class of the name; `None` exactly where there is no such class.
+    /// The extent of the class of the name; `None` exactly where there is no such class. It takes constant expected time.
     pub fn extent_of(&self, class: &Name) -> Option<&Name>
         ensures { option_copied result ≡ extent_named self.now class.now }
     {
-        let class = class_by_name(&self.classes, class)?;
-        Some(&class.extent)
+        let class = self.by_name(class)?;
+        Some(&class.get().extent)
     }
 
-    /// The type of an attribute of the class of the name; `None` exactly where the schema has no such class or the class no such attribute.
+    /// The type of an attribute of the class of the name; `None` exactly where the schema has no such class or the class no such
+    /// attribute. It takes constant expected time.
     pub fn attribute(&self, class: &Name, a: &Name) -> Option<&Ty>
         ensures { option_map type_at result ≡ attribute_type self.now class.now a.now }
     {
-        let class = class_by_name(&self.classes, class)?;
-        let entry = entry_by_name(class.attributes.as_slice(), a)?;
-        Some(&entry.1)
+        self.by_name(class)?.attribute(a)
     }
 
-    /// The key at place `n`, counted from 0, of the class of the name; `None` exactly where there is no such class or no such key.
+    /// The key at place `n`, counted from 0, of the class of the name; `None` exactly where there is no such class or no such key. It
+    /// takes constant expected time.
     pub fn key_of(&self, class: &Name, n: usize) -> Option<&Names>
         ensures { option_copied result ≡ key_at self.now class.now n }
     {
-        let class = class_by_name(&self.classes, class)?;
-        class.keys.get(n)
+        let class = self.by_name(class)?;
+        class.get().keys.get(n)
+    }
+
+    /// The classes in their order, each with its table.
+    pub fn classes(&self) -> &[IndexedClass]
+        ensures { result.now ≡ self.now }
+    {
+        self.classes.as_slice()
+    }
+
+    fn by_name(&self, name: &Name) -> Option<&IndexedClass>
+        ensures { option_copied result ≡ class_named self.now name.now }
+    {
+        let place = self.names.place(name)?;
+        self.at(place)
+    }
+
+    fn at(&self, n: usize) -> Option<&IndexedClass>
+        ensures { option_copied result ≡ slice_get self.now n }
+    {
+        self.classes.get(n)
     }
 }

@@ -1,4 +1,4 @@
-use Rattle.std.proofs.Common.{inr}
+use Rattle.std.proofs.Common.{inr, ◌+◌}
 use Rattle.kola_base.specs.declared.lex.LexFault.TheVariants.{At}
 use Rattle.kola_base.specs.Tokens.{AreTokens, StopsAt}
 use Rattle.kola_base.proofs.Cutting.{cut_more, cut_all, cut_stops}
@@ -29,11 +29,11 @@ returns-clause-order c = in_order c.push_token-2.new.out.items c.args.text.now (
 
 -- ---- where nothing goes on, this is the fault
 
-stops : (c : After-drop-out) → StopsAt c.args.text.now c.loop-at.at c.in-Err.why
-stops c = cut_stops c.args.text.now c.loop-at.out.items c.loop-at.at c.in-Err.why c.loop-at.invariant (rw c.split_at.ensures.back at c.in-Err.ensures.err)
+stops : (c : After-drop-out) → StopsAt c.args.text.now (c.loop-at.at + c.in-Err.behind) c.in-Err.why
+stops c = cut_stops c.args.text.now c.loop-at.out.items c.loop-at.at c.in-Err.behind c.in-Err.why c.loop-at.invariant (rw c.split_at.ensures.back at c.in-Err.ensures.err)
 
 pub returns-in-Err-clause-only_tokens : goal.returns-in-Err-clause-only_tokens
-returns-in-Err-clause-only_tokens c = λ ts a. absurd (not_both ts c.args.text.now c.loop-at.at c.in-Err.why a (stops c))
+returns-in-Err-clause-only_tokens c = λ ts a. absurd (not_both ts c.args.text.now (c.loop-at.at + c.in-Err.behind) c.in-Err.why a (stops c))
 
 pub returns-in-Err-clause-only_fault : goal.returns-in-Err-clause-only_fault
-returns-in-Err-clause-only_fault c = λ at why f. let same = one_fault c.args.text.now c.loop-at.at at c.in-Err.why why (stops c) f in inr (λ i. At (same.0 i) (same.1 i))
+returns-in-Err-clause-only_fault c = λ at why f. let same = one_fault c.args.text.now (c.loop-at.at + c.in-Err.behind) at c.in-Err.why why (stops c) f in inr (λ i. At (same.0 i) (same.1 i))

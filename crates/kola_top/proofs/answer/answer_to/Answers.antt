@@ -1,7 +1,7 @@
 use Rattle.std.proofs.Common.{◌∙◌, sym, ap, subst, refl}
 use Rattle.kola_top.specs.declared.status.Status.TheVariants as statuses
 use Rattle.kola_top.specs.Answer.{Answer, layout, in_layout}
-use Rattle.kola_top.proofs.AnswerLaws.{for_action, run_written}
+use Rattle.kola_top.proofs.AnswerLaws.{for_action}
 use Rattle.kola_top.proofs.answer.answer_to.Goals as goal
 
 pub run_answer-requires-clause-found : goal.run_answer-requires-clause-found

@@ -1,6 +1,5 @@
 use Rattle.std.proofs.Common.{◌∙◌, ap}
 use Rattle.kola_base.specs.Lexemes.{lexemes}
-use Rattle.kola_base.specs.Tokens.{AreTokens}
 use Rattle.kola_top.specs.FormViews.{form_view, lexemes_view}
 use Rattle.kola_top.proofs.QueryReading.{read_ok, no_query}
 use Rattle.kola_top.proofs.query.query_of.Goals as goal

@@ -4,7 +4,7 @@ use Rattle.kola_values.specs.Values.{VObj}
 use Rattle.kola_values.specs.Order.{cmp}
 use Rattle.kola_values.specs.Sets.{has}
 use Rattle.kola_values.specs.declared.object.ObjectDef.{ObjectDef}
-use Rattle.kola_values.proofs.Making.{found}
+use Rattle.kola_values.proofs.Making.{found_sorted}
 use Rattle.kola_values.proofs.MeetingLoops.{values_seen}
 use Rattle.kola_values.proofs.objects.SortedHolds.holds.Goals as goal
 
@@ -14,5 +14,5 @@ returns c =
     let d = c.args.self.now.objects.now in
     let at = c.binary_search_by.ensures.position (λ (o : ObjectDef). cmp (VObj o.class o.id) v) (always_returns_same _ _ _ (λ a r f' k. search rules)) in
     c.is_ok.ensures.value
-    ∙ found (λ (o : ObjectDef). VObj o.class o.id) v d c.binary_search_by.result c.args.self.now.sorted c.binary_search_by.ensures.bound at
+    ∙ found_sorted (λ (o : ObjectDef). VObj o.class o.id) v d c.binary_search_by.result c.args.self.now.sorted c.binary_search_by.ensures.bound at
     ∙ ap (has v) (values_seen d)

@@ -1,15 +1,19 @@
-use Rattle.std.proofs.Common.{map, ap, ◌∙◌, rules}
-use Rattle.std.specs.Option.{option_copied}
-use Rattle.kola_values.specs.SchemaViews.{class_tree}
-use Rattle.kola_values.proofs.Schemas.{class_by_extent_seen}
+use Rattle.std.proofs.Common.{rules, ◌∙◌, ap}
+use Rattle.kola_values.specs.Databases.{extent_class}
+use Rattle.kola_values.proofs.Places.{extent_at_place}
 use Rattle.kola_values.proofs.schema.Schema.class_of.Goals as goal
+
+pub returns-in_err-place : goal.returns-in_err-place
+returns-in_err-place c =
+    let h = extent_at_place c.self.inside.classes.items c.self.inside.extents c.args.extent.now c.place.result c.place.ensures c.self.invariant.2 ∙ ap (λ l. extent_class l c.args.extent.now) c.self.view_is in
+    search rules
 
 pub returns-in_err-class : goal.returns-in_err-class
 returns-in_err-class c =
-    let h = class_by_extent_seen c.deref.result.now c.args.self.now (ap (map class_tree) c.deref.ensures.value ∙ c.self.view_is) c.args.extent.now (option_copied c.class_by_extent.result) c.class_by_extent.ensures in
+    let h = extent_at_place c.self.inside.classes.items c.self.inside.extents c.args.extent.now c.place.result c.place.ensures c.self.invariant.2 ∙ ap (λ l. extent_class l c.args.extent.now) c.self.view_is in
     search rules
 
 pub returns : goal.returns
 returns c =
-    let h = class_by_extent_seen c.deref.result.now c.args.self.now (ap (map class_tree) c.deref.ensures.value ∙ c.self.view_is) c.args.extent.now (option_copied c.class_by_extent.result) c.class_by_extent.ensures in
+    let h = extent_at_place c.self.inside.classes.items c.self.inside.extents c.args.extent.now c.place.result c.place.ensures c.self.invariant.2 ∙ ap (λ l. extent_class l c.args.extent.now) c.self.view_is in
     search rules

@@ -26,7 +26,7 @@ pub use encoding::{
     encoding_keeps_order,
 };
 pub use laws::{equal_types_are_the_same, values_are_totally_ordered};
-pub use meets::objects_ok;
+pub use meets::{ObjectsRefused, objects_ok};
 pub use object::ObjectDef;
 pub use objects::shaped;
 pub use order::cmp_values;

@@ -1,5 +1,5 @@
 //! Whether objects are a database of a schema.
-ghost use Rattle.std.specs.Prelude.{◌≡◌, ◌↔◌, true, Some, map, IfOk};
+ghost use Rattle.std.specs.Prelude.{◌≡◌, ◌↔◌, true, Some, map, IfOk, IfErr, OnOk, MatchOption, IsPermutation};
 ghost use Rattle.std.specs.List.Sorted.{IsSortedBy};
 ghost use Rattle.std.specs.Ordering.{is_lt};
 ghost use Rattle.kola_values.specs.Values.{VObj};
@@ -15,10 +15,13 @@ ghost use Rattle.kola_values.specs.MeetsTests.{IsHeld, is_there, no_two, same_ob
 ghost use Rattle.kola_values.specs.Views.{type_tree, type_entry, value_tree, value_entry, value_at};
 ghost use Rattle.kola_values.specs.SchemaViews.{class_tree, class_at, type_at};
 ghost use Rattle.kola_values.specs.ObjectViews.{object_tree};
+ghost use Rattle.kola_values.specs.Stored.{IsUnder};
+ghost use Rattle.kola_values.specs.declared.meets.ObjectsRefused.TheVariants as refused;
 
+use crate::db::cmp_objects;
 use crate::keyed::keys_are_apart;
 use crate::objects::{Holds, Listed, Sorted, has_object, is_of_type, objects_rise};
-use crate::{ClassDef, ObjectDef, Schema, Ty, Value};
+use crate::{ClassDef, Db, ObjectDef, Schema, Ty, Value};
 use kola_core::{Memory, Name, Names};
 use std::alloc::Global;
 
@@ -223,4 +226,52 @@ pub fn objects_ok(schema: &Schema, objects: &[ObjectDef]) -> bool
 {
     all_held(objects);
     meets(schema, objects)
+}
+
+// The database of objects, or nothing where they do not meet the schema.
+fn made(alloc: Global, schema: &Schema, objects: Vec<ObjectDef>) -> Result<Option<Db>, Memory>
+    ensures { IfOk result (λ r. MatchOption r (Meets schema.now (map object_tree objects.items) → ⊥)
+        (λ db. IsUnder schema.now db × IsPermutation (map object_tree objects.items) db.objects × Meets schema.now (map object_tree objects.items))) }
+{
+    let mut objects = objects;
+    objects.sort_unstable_by(|o, p| cmp_objects(o, p));
+    all_held(objects.as_slice());
+    let met = sorted_meet(alloc, schema, objects.as_slice())?;
+    if !met {
+        return Ok(None);
+    }
+    let db = Db::make(alloc, schema, objects)?;
+    Ok(Some(db))
+}
+
+/// Why there is no database of some objects.
+#[derive(Drop)]
+pub enum ObjectsRefused {
+    /// They do not meet the schema.
+    NotMet,
+    /// Memory is wanted.
+    Memory,
+}
+
+impl Db {
+    /// The database of these objects, or `NotMet` exactly where they do not meet the schema, in the sense of `objects_ok`. Its time goes with
+    /// the number of objects times its logarithm: it sorts the objects where they stand, and what each key says of each.
+    pub fn try_make(
+        alloc: Global,
+        schema: &Schema,
+        objects: Vec<ObjectDef>,
+    ) -> Result<Db, ObjectsRefused>
+        ensures under { IfOk result (λ db. IsUnder schema.now db) }
+        ensures objects { IfOk result (λ db. IsPermutation (map object_tree objects.items) db.objects) }
+        ensures met { OnOk result (Meets schema.now (map object_tree objects.items)) }
+        ensures not_met { IfErr result (λ e. e ≡ refused.NotMet → Meets schema.now (map object_tree objects.items) → ⊥) }
+    {
+        let Ok(made) = made(alloc, schema, objects) else {
+            return Err(ObjectsRefused::Memory);
+        };
+        match made {
+            Some(db) => Ok(db),
+            None => Err(ObjectsRefused::NotMet),
+        }
+    }
 }

@@ -48,15 +48,32 @@ fn vehicle_class(alloc: Global) -> Result<ClassDef, Memory> {
     })
 }
 
-fn are_accepted(alloc: Global, objects: &[ObjectDef]) -> Result<bool, Memory> {
+fn schema(alloc: Global) -> Result<Option<Schema>, Memory> {
     let mut classes = Vec::new(alloc);
     classes.push(person_class(alloc)?)?;
     classes.push(vehicle_class(alloc)?)?;
     if !classes_ok(classes.as_slice()) {
-        return Ok(false);
+        return Ok(None);
     }
     let schema = Schema::make(alloc, classes)?;
-    Ok(objects_ok(&schema, objects))
+    Ok(Some(schema))
+}
+
+fn are_accepted(alloc: Global, objects: &[ObjectDef]) -> Result<bool, Memory> {
+    match schema(alloc)? {
+        Some(schema) => Ok(objects_ok(&schema, objects)),
+        None => Ok(false),
+    }
+}
+
+fn makes_a_database(alloc: Global, objects: Vec<ObjectDef>) -> Result<bool, Memory> {
+    let Some(schema) = schema(alloc)? else {
+        return Ok(false);
+    };
+    match Db::try_make(alloc, &schema, objects) {
+        Ok(_) => Ok(true),
+        Err(_) => Ok(false),
+    }
 }
 
 fn vehicle(alloc: Global, id: u32, year: Value) -> Result<ObjectDef, Memory> {
@@ -106,10 +123,22 @@ fn sample(alloc: Global) -> Result<Vec<ObjectDef>, Memory> {
     Ok(objects)
 }
 
-fn with(alloc: Global, object: ObjectDef) -> Result<bool, Memory> {
+// Whether the sample with one more object is accepted, by both ways.
+fn is_taken(alloc: Global, object: ObjectDef) -> Result<bool, Memory> {
     let mut objects = sample(alloc)?;
     objects.push(object)?;
-    are_accepted(alloc, objects.as_slice())
+    let accepted = are_accepted(alloc, objects.as_slice())?;
+    let made = makes_a_database(alloc, objects)?;
+    Ok(accepted && made)
+}
+
+// Whether it is refused, by both ways.
+fn is_refused(alloc: Global, object: ObjectDef) -> Result<bool, Memory> {
+    let mut objects = sample(alloc)?;
+    objects.push(object)?;
+    let accepted = are_accepted(alloc, objects.as_slice())?;
+    let made = makes_a_database(alloc, objects)?;
+    Ok(!accepted && !made)
 }
 
 #[test]
@@ -117,38 +146,38 @@ fn persons_and_vehicles(rt: HostRuntime) -> Result<(), Fail> {
     let alloc = rt.alloc();
     assert!(rt; are_accepted(alloc, &[])?);
     assert!(rt;
-        with(
+        is_taken(
             alloc,
             person(alloc, 2, ("b", "Bob", "Lee"), ("Vehicle", 1))?
         )?
     );
     assert!(rt;
-        !with(
+        is_refused(
             alloc,
             person(alloc, 2, ("a", "Bob", "Lee"), ("Vehicle", 1))?
         )?
     );
     assert!(rt;
-        !with(
+        is_refused(
             alloc,
             person(alloc, 2, ("b", "Ann", "Lee"), ("Vehicle", 1))?
         )?
     );
     assert!(rt;
-        !with(
+        is_refused(
             alloc,
             person(alloc, 2, ("b", "Bob", "Lee"), ("Vehicle", 7))?
         )?
     );
-    assert!(rt; !with(alloc, person(alloc, 2, ("b", "Bob", "Lee"), ("Person", 1))?)?);
+    assert!(rt; is_refused(alloc, person(alloc, 2, ("b", "Bob", "Lee"), ("Person", 1))?)?);
     assert!(rt;
-        !with(
+        is_refused(
             alloc,
             person(alloc, 1, ("b", "Bob", "Lee"), ("Vehicle", 1))?
         )?
     );
     assert!(rt;
-        !with(
+        is_refused(
             alloc,
             person(alloc, 0, ("b", "Bob", "Lee"), ("Vehicle", 1))?
         )?
@@ -159,20 +188,20 @@ fn persons_and_vehicles(rt: HostRuntime) -> Result<(), Fail> {
 #[test]
 fn attributes_of_a_vehicle(rt: HostRuntime) -> Result<(), Fail> {
     let alloc = rt.alloc();
-    assert!(rt; with(alloc, vehicle(alloc, 3, Value::Int(1990))?)?);
-    assert!(rt; !with(alloc, vehicle(alloc, 3, Value::Bool(true))?)?);
+    assert!(rt; is_taken(alloc, vehicle(alloc, 3, Value::Int(1990))?)?);
+    assert!(rt; is_refused(alloc, vehicle(alloc, 3, Value::Bool(true))?)?);
     let mut fewer = vehicle(alloc, 3, Value::Int(1990))?;
     fewer.values = ValueFields::new(alloc);
-    assert!(rt; !with(alloc, fewer)?);
+    assert!(rt; is_refused(alloc, fewer)?);
     let mut more = vehicle(alloc, 3, Value::Int(1990))?;
     more.values.push((name(alloc, "wheels")?, Value::Int(4)))?;
-    assert!(rt; !with(alloc, more)?);
+    assert!(rt; is_refused(alloc, more)?);
     let mut again = vehicle(alloc, 3, Value::Int(1990))?;
     again.values.push((name(alloc, "year")?, Value::Int(1990)))?;
-    assert!(rt; !with(alloc, again)?);
+    assert!(rt; is_refused(alloc, again)?);
     let mut other = vehicle(alloc, 3, Value::Int(1990))?;
     other.class = name(alloc, "Boat")?;
-    assert!(rt; !with(alloc, other)?);
+    assert!(rt; is_refused(alloc, other)?);
     Ok(())
 }
 

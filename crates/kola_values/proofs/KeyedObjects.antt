@@ -1,11 +1,10 @@
 -- Two objects clash exactly where a key says the same of them.
-use Rattle.std.proofs.Common.{◌≡◌, ℕ, zero, suc, ◌+◌, ◌<◌, ◌≤◌, Bool, true, false, not, ◌&&◌, ◌||◌, true≢false, List, [], ◌∷◌, ◌++◌, Option, Some, None, map, flat_map, length, get_or, drop, ap, ap₂, sym, refl, subst, ◌∙◌, arith, Less, Equal, Greater, Ordering}
-use mathlib.Core.Bool.{or_assoc, or_comm, or-false, and_assoc, and-false, or-true}
+use Rattle.std.proofs.Common.{◌≡◌, ℕ, ◌+◌, ◌<◌, Bool, true, false, not, ◌&&◌, ◌||◌, List, [], ◌∷◌, ◌++◌, Option, Some, None, map, flat_map, ap, sym, refl, ◌∙◌, arith, Less, Equal, Greater, Ordering}
+use mathlib.Core.Bool.{or_assoc, or-false, or-true}
 use Rattle.std.specs.List.{list_any, list_all}
 use Rattle.std.specs.Str.{bytes_eq}
-use Rattle.std.specs.Ordering.{is_eq, is_lt, ordering_then, ordering_reverse}
+use Rattle.std.specs.Ordering.{is_eq, ordering_then, ordering_reverse}
 use Rattle.std.specs.Cmp.{IsTotalOrder}
-use Rattle.std.specs.Cmp.Lexicographic.{slice_cmp}
 use Rattle.std.proofs.lemmas.Cmp.{lists_total}
 use Rattle.kola_values.specs.Values.{ValueTree, VObj}
 use Rattle.kola_values.specs.Order.{cmp, same}
@@ -15,8 +14,8 @@ use Rattle.kola_values.specs.MeetsTests.{no_two, agree_at, clash, keys_are_met}
 use Rattle.kola_values.specs.KeyedObjects.{value_at_name, keyed, keyed_from, all_keyed, keyed_objects, cmp_keyed, same_keyed}
 use Rattle.kola_values.specs.Models.Total.{cmp_total}
 use Rattle.kola_values.proofs.Anys.{equal, same_itself}
-use Rattle.kola_values.proofs.SameTypes.{name_equal, name_itself}
-use Rattle.kola_values.proofs.MeetingTypes.{class_part, other_class}
+use Rattle.kola_values.proofs.SameTypes.{name_equal}
+use Rattle.kola_values.proofs.MeetingTypes.{other_class}
 
 pub cmp_keyed_total : IsTotalOrder cmp_keyed
 cmp_keyed_total = lists_total cmp_total

@@ -1,5 +1,5 @@
 -- The test of objects against a schema answers true exactly where they meet it.
-use Rattle.std.proofs.Common.{◌≡◌, ◌↔◌, ◌⊎◌, inl, inr, ℕ, zero, suc, ◌<◌, ◌≤◌, Bool, true, false, not, cond, true≢false, ◌&&◌, ◌||◌, List, [], ◌∷◌, Option, Some, None, map, ap, sym, refl, subst, ◌∙◌, arith}
+use Rattle.std.proofs.Common.{◌≡◌, ◌⊎◌, inl, inr, ℕ, zero, suc, Bool, true, false, not, cond, true≢false, ◌&&◌, ◌||◌, List, [], ◌∷◌, Option, Some, None, ap, sym, refl, subst, ◌∙◌, arith}
 use mathlib.Core.Bool.{or-true}
 use Rattle.std.specs.List.{list_any, list_all, slice_get}
 use Rattle.std.specs.Option.{option_and_then}
@@ -11,10 +11,10 @@ use Rattle.kola_values.specs.Types.{TypeTree, TClass}
 use Rattle.kola_values.specs.Order.{same}
 use Rattle.kola_values.specs.Sets.{Each, any, has}
 use Rattle.kola_values.specs.WellFormed.{WellFormed}
-use Rattle.kola_values.specs.Databases.{Class, Object, Classes, Objects, look_up, value_or_unit, attribute_of, attribute_type, HasType}
+use Rattle.kola_values.specs.Databases.{Class, Object, Classes, Objects, look_up, value_or_unit, attribute_of, HasType}
 use Rattle.kola_values.specs.Schemas.{is_listed, are_distinct, names_of, class_named, key_at}
 use Rattle.kola_values.specs.Meets.{FitsClass, NoneTwice, object_values, agree_on, Meets}
-use Rattle.kola_values.specs.MeetsTests.{typed_by, is_there, IsHeld, no_two, same_object, is_value_of, are_typed, are_whole, fits_class, agree_at, clash, all_fit, keys_are_met, meets}
+use Rattle.kola_values.specs.MeetsTests.{is_there, IsHeld, no_two, same_object, is_value_of, are_typed, are_whole, fits_class, agree_at, clash, all_fit, keys_are_met, meets}
 use Rattle.kola_values.proofs.Anys.{bool_same, equal, same_itself, same_comm}
 use Rattle.kola_values.proofs.SameTypes.{both_true, name_equal, name_itself}
 use Rattle.kola_values.proofs.Schemas.{attribute_of_class}

@@ -1,5 +1,5 @@
 -- A sorted list has no two equal elements exactly where no element is equal to the next.
-use Rattle.std.proofs.Common.{◌≡◌, ℕ, zero, suc, ◌+◌, ◌<◌, length, get_or, Bool, true, false, not, ◌&&◌, ◌||◌, List, [], ◌∷◌, map, sym, ◌∙◌, ap, refl, subst, arith, add-one, Less, Equal, Greater, Ordering}
+use Rattle.std.proofs.Common.{◌≡◌, ℕ, zero, suc, ◌+◌, ◌<◌, length, get_or, Bool, true, false, not, ◌&&◌, ◌||◌, List, [], ◌∷◌, map, sym, ◌∙◌, ap, refl, arith, add-one, Less, Equal, Greater, Ordering}
 use mathlib.Core.Bool.{and-false}
 use Rattle.std.specs.List.{list_any, AllByRecursion, IsDistinct, IsAllAdjacentAnswer, AllAdjacentBelow}
 use Rattle.std.specs.List.Sorted.{IsPermutation, IsSortedBy}
@@ -7,16 +7,12 @@ use Rattle.std.specs.Ordering.{is_lt, is_eq, ordering_reverse}
 use Rattle.std.specs.Cmp.{IsTotalOrder}
 use Rattle.std.proofs.lemmas.List.Sorted.{IsPermutation-sym}
 use Rattle.std.proofs.lemmas.Map.Keys.{IsDistinct-IsPermutation}
-use Rattle.std.specs.Bool.{OnTrue}
 use Rattle.kola_values.specs.Values.{ValueTree, VObj}
 use Rattle.kola_values.specs.Order.{cmp, same}
-use Rattle.kola_values.specs.Sets.{Rising}
 use Rattle.kola_values.specs.Models.Total.{cmp_total}
-use Rattle.kola_values.specs.Meets.{object_values}
 use Rattle.kola_values.specs.MeetsTests.{no_two, same_object}
 use Rattle.kola_values.specs.ObjectViews.{object_tree}
 use Rattle.kola_values.specs.declared.object.ObjectDef.{ObjectDef}
-use Rattle.kola_values.proofs.MeetingLoops.{values_seen}
 use Rattle.kola_values.proofs.KeyLoops.{no_two_seen}
 use Rattle.kola_values.proofs.Anys.{bool_same}
 use Rattle.kola_values.proofs.SameTypes.{both_true}

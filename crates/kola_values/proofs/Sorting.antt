@@ -15,13 +15,8 @@ use Rattle.kola_values.specs.ObjectViews.{object_tree}
 use Rattle.kola_values.specs.declared.object.ObjectDef.{ObjectDef}
 use Rattle.kola_values.proofs.KeyLoops.{no_two_seen}
 use Rattle.kola_values.proofs.Anys.{bool_same}
-use Rattle.kola_values.proofs.SameTypes.{both_true}
-use Rattle.kola_values.proofs.NameTests.{both_false}
-use Rattle.kola_values.proofs.MeetingTypes.{both_hold}
-
-not_true : (b : Bool) → not b ≡ true → b ≡ false
-not_true false h = refl
-not_true true h = absurd (cc)
+use Rattle.kola_values.proofs.SameTypes.{and_true, both_true}
+use Rattle.kola_values.proofs.NameTests.{both_false, not_true}
 
 -- ---- the order of the elements does not tell
 
@@ -92,7 +87,7 @@ module _ {K : Type 0} (R : K → K → Ordering) (total : IsTotalOrder R) {X : T
   none_tied : (xs : List X) → Ascends xs → no_two tied xs ≡ true
   none_tied [] h = refl
   none_tied (x ∷ []) h = refl
-  none_tied (x ∷ y ∷ ys) h = both_hold _ _ (ap not (from_none_related tied x (y ∷ ys) (above_first x (y ∷ ys) h))) (none_tied (y ∷ ys) h.1)
+  none_tied (x ∷ y ∷ ys) h = and_true _ _ (ap not (from_none_related tied x (y ∷ ys) (above_first x (y ∷ ys) h))) (none_tied (y ∷ ys) h.1)
 
   two_tied : (xs : List X) (k : ℕ) → k + 1 < length xs → ((d : X) → tied (get_or xs k d) (get_or xs (k + 1) d) ≡ true) → no_two tied xs ≡ false
   two_tied [] k p h = absurd (omega arith)

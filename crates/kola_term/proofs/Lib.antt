@@ -2,6 +2,7 @@ pub mod Sample
 mod Examples
 mod LiteralLoop
 mod SetConstants
+mod Sizes
 pub mod Inversions
 pub mod Introductions
 pub mod Attributes

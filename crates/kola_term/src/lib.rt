@@ -2,10 +2,14 @@
 #![tactic(auto)]
 
 mod constant;
+mod inputs;
+mod judging;
 mod laws;
 pub mod make;
 mod meta;
+mod size;
 mod term;
+mod typing;
 mod unlimited;
 
 pub use constant::{Const, LitSet};
@@ -16,4 +20,5 @@ pub use laws::{
 };
 pub use meta::{MetaCtx, MetaTy};
 pub use term::{Fun, Pred, Term};
+pub use typing::{TypeFault, TypeWhy};
 pub use unlimited::{const_type, out_type_without_limit, pred_ok_without_limit};

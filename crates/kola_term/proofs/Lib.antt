@@ -12,3 +12,4 @@ pub mod Paths
 pub mod Kept
 pub mod Faulty
 pub mod Unique
+mod Weights

@@ -3,6 +3,7 @@
 
 mod constant;
 mod inputs;
+mod judge;
 mod judging;
 mod laws;
 pub mod make;

@@ -13,3 +13,4 @@ pub mod Kept
 pub mod Faulty
 pub mod Unique
 mod Weights
+mod WithoutLimit

@@ -3,7 +3,7 @@
 ghost use Rattle.std.specs.Prelude.{◌≡◌};
 ghost use Rattle.kola_values.specs.Types.{TSet};
 ghost use Rattle.kola_values.specs.Views.{type_tree};
-ghost use Rattle.kola_term.specs.Terms.{FComp, FPair, FTimes, FC, FIf, FIterate, FIter, FJoin, FNest, FUnnest, PAt, PInv, PCP, PEx};
+ghost use Rattle.kola_term.specs.Terms.{FComp, FPair, FTimes, FC, FIf, FIterate, FIter, FJoin, FNest, FUnnest, PAt, PAnd, PInv, PCP, PEx};
 ghost use Rattle.kola_term.specs.Judging.{under, kid, sized, typing, checking};
 ghost use Rattle.kola_term.specs.TermView.{const_tree, fun_tree, pred_tree};
 ghost use Rattle.kola_term.specs.ContextView.{context_of};
@@ -56,7 +56,8 @@ impl Judge<'_> {
             Pred::Eq | Pred::Lt | Pred::Le => self.wanted(twin(t)),
             Pred::Member => self.wanted(twin_member(t)),
             Pred::At(p, f) => self.pred_at(p, f, t),
-            Pred::And(p, q) | Pred::Or(p, q) => self.both(p, q, t),
+            Pred::And(p, q) => self.both(p, q, t),
+            Pred::Or(p, q) => self.both(p, q, t),
             Pred::Not(p) => self.pred_under(1, p, t),
             Pred::Inv(p) => self.inverse(p, t),
             Pred::KP(_) => Ok(()),
@@ -199,8 +200,7 @@ impl Judge<'_> {
 
     #[cycle(typing)]
     fn both(&self, p: &Pred, q: &Pred, t: &Ty) -> Result<(), TypeFault>
-        ensures { IsCheck result (kid 1 (checking self.now.schema.now (context_of self.now.ctx.now) self.now.limited (pred_tree p.now) (type_tree t.now)) (λ _.
-            under 2 (checking self.now.schema.now (context_of self.now.ctx.now) self.now.limited (pred_tree q.now) (type_tree t.now)))) }
+        ensures { IsCheck result (checking self.now.schema.now (context_of self.now.ctx.now) self.now.limited (PAnd (pred_tree p.now) (pred_tree q.now)) (type_tree t.now)) }
     {
         self.pred_under(1, p, t)?;
         self.pred_under(2, q, t)

@@ -14,3 +14,4 @@ pub mod Faulty
 pub mod Unique
 mod Weights
 mod WithoutLimit
+mod TypeAnswers

@@ -59,6 +59,9 @@ in_set_over (Ok u) (Ok v) = refl
 in_set_over (Ok u) (Err e) = refl
 in_set_over (Err e) q = refl
 
+in_over : (p q : Checked) (b : Bool) (o : Option TypeTree) → has_type p ≡ b → type_in q ≡ o → type_in (kid 1 p (λ _. kid 2 q (λ u. sized false (TSet u)))) ≡ the_if b (option_map TSet o)
+in_over p q b o e h = in_set_over p q ∙ (λ i. the_if (e i) (option_map TSet (h i)))
+
 in_same : (b : Bool) (u : TypeTree) → type_in (when_same b (Ok u)) ≡ cond b (Some u) None
 in_same true u = refl
 in_same false u = refl
@@ -153,9 +156,9 @@ module _ (S : Classes) (x : Context) where
     in_typing (FIf p f g) t =
         in_if (checking S x false p t) (typing S x false f t) (typing S x false g t)
         ∙ (λ i. the_if (has_checking p t i) (one_of (in_typing f t i) (in_typing g t i)))
-    in_typing (FIterate p f) t = in_given (member_type t) _ ∙ (λ i. option_and_then (λ m. in_over p f m i) (member_type t))
-    in_typing (FIter p f) t = in_given (iter_type t) _ ∙ (λ i. option_and_then (λ m. in_over p f m i) (iter_type t))
-    in_typing (FJoin p f) t = in_given (join_type t) _ ∙ (λ i. option_and_then (λ m. in_over p f m i) (join_type t))
+    in_typing (FIterate p f) t = in_given (member_type t) _ ∙ (λ i. option_and_then (λ m. in_over (checking S x false p m) (typing S x false f m) (is_typed S x p m) (out S x f m) (has_checking p m) (in_typing f m) i) (member_type t))
+    in_typing (FIter p f) t = in_given (iter_type t) _ ∙ (λ i. option_and_then (λ m. in_over (checking S x false p m) (typing S x false f m) (is_typed S x p m) (out S x f m) (has_checking p m) (in_typing f m) i) (iter_type t))
+    in_typing (FJoin p f) t = in_given (join_type t) _ ∙ (λ i. option_and_then (λ m. in_over (checking S x false p m) (typing S x false f m) (is_typed S x p m) (out S x f m) (has_checking p m) (in_typing f m) i) (join_type t))
     in_typing (FNest f g) (TPair (TSet a) (TSet b)) = in_nest (typing S x false f a) (typing S x false g a) a b ∙ (λ i. nest_of (in_typing f a i) (in_typing g a i) (TPair a b))
     in_typing (FNest f g) _ = refl
     in_typing (FUnnest f g) (TSet m) = in_unnest (typing S x false f m) (typing S x false g m) ∙ (λ i. option_map TSet (pair_of (in_typing f m i) (option_and_then member_type (in_typing g m i))))
@@ -169,9 +172,6 @@ module _ (S : Classes) (x : Context) where
     in_typing FUnion t = in_given (out S x FUnion t) (sized false) ∙ in_out (out S x FUnion t)
     in_typing FIsect t = in_given (out S x FIsect t) (sized false) ∙ in_out (out S x FIsect t)
     in_typing FMinus t = in_given (out S x FMinus t) (sized false) ∙ in_out (out S x FMinus t)
-
-    in_over : (p : PredTree) (f : FunTree) (m : TypeTree) → type_in (kid 1 (checking S x false p m) (λ _. kid 2 (typing S x false f m) (λ u. sized false (TSet u)))) ≡ the_if (is_typed S x p m) (option_map TSet (out S x f m))
-    in_over p f m = in_set_over (checking S x false p m) (typing S x false f m) ∙ (λ i. the_if (has_checking p m i) (option_map TSet (in_typing f m i)))
 
     pub has_checking : (p : PredTree) (t : TypeTree) → has_type (checking S x false p t) ≡ is_typed S x p t
     has_checking (PAt p f) t =

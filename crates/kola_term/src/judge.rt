@@ -23,6 +23,7 @@ use kola_values::{Schema, Ty};
 use std::alloc::Global;
 
 /// What a term is typed by: the schema, the variables, and whether output types of more than 4,096 nodes are refused.
+#[derive(Drop)]
 pub(crate) struct Judge<'a> {
     pub alloc: Global,
     pub schema: &'a Schema,

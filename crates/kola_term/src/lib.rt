@@ -21,5 +21,5 @@ pub use laws::{
 };
 pub use meta::{MetaCtx, MetaTy};
 pub use term::{Fun, Pred, Term};
-pub use typing::{TypeFault, TypeWhy};
+pub use typing::{TypeFault, TypeWhy, out_type, pred_ok};
 pub use unlimited::{const_type, out_type_without_limit, pred_ok_without_limit};

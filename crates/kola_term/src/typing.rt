@@ -1,9 +1,17 @@
 //! The type of a term, or its first fault.
 
+ghost use Rattle.kola_values.specs.Views.{type_tree};
+ghost use Rattle.kola_term.specs.Terms.{TermF, TermP};
 ghost use Rattle.kola_term.specs.Judging.{refused};
-ghost use Rattle.kola_term.specs.TypingAnswers.{why_tree, IsFault};
+ghost use Rattle.kola_term.specs.TermView.{fun_tree, pred_tree};
+ghost use Rattle.kola_term.specs.ContextView.{context_of};
+ghost use Rattle.kola_term.specs.TypingAnswers.{why_tree, IsFault, TypeOf, CheckOf};
 
+use crate::judge::Judge;
+use crate::meta::MetaCtx;
+use crate::term::{Fun, Pred};
 use kola_core::{Memory, Path};
+use kola_values::{Schema, Ty};
 use std::alloc::Global;
 
 /// Why a node of a term has no type.
@@ -50,4 +58,49 @@ pub(crate) fn refused(alloc: Global, why: TypeWhy) -> TypeFault
         path: Path::new(alloc),
         why,
     }
+}
+
+/// The output type of a function at an input type, where it is typed there and no function in it has an output type of
+/// more than 4,096 nodes at its place; else the first fault, by its path and its cause. A node is judged in four parts:
+/// its own input type; its children, from the left, but the constant first in `C`, the inner function first in
+/// `(f o g)` and the function first in `(p @ f)`; the outputs of its children; the size of its own output type.
+///
+/// It takes time by the number of the term's nodes times the greatest number of nodes of a type that it meets. An output
+/// type of more than 4,096 nodes is never built, and its count stops there.
+pub fn out_type(
+    alloc: Global,
+    schema: &Schema,
+    ctx: &MetaCtx,
+    f: &Fun,
+    t: &Ty,
+) -> Result<Ty, TypeFault>
+    ensures { TypeOf schema.now (context_of ctx.now) (TermF (fun_tree f.now)) (type_tree t.now) result }
+{
+    let judge = Judge {
+        alloc,
+        schema,
+        ctx,
+        limited: true,
+    };
+    judge.fun(f, t)
+}
+
+/// Whether a predicate is typed at an input type, and no function in it has an output type of more than 4,096 nodes at
+/// its place; else the first fault. The order of faults and the cost are those of `out_type`.
+pub fn pred_ok(
+    alloc: Global,
+    schema: &Schema,
+    ctx: &MetaCtx,
+    p: &Pred,
+    t: &Ty,
+) -> Result<(), TypeFault>
+    ensures { CheckOf schema.now (context_of ctx.now) (TermP (pred_tree p.now)) (type_tree t.now) result }
+{
+    let judge = Judge {
+        alloc,
+        schema,
+        ctx,
+        limited: true,
+    };
+    judge.pred(p, t)
 }

@@ -1,5 +1,5 @@
 -- When a set is a set constant: what its first member and the test of all members say.
-use Rattle.std.proofs.Common.{◌≡◌, Bool, true, false, cond, ◌&&◌, List, [], ◌∷◌, Option, Some, None, refl, sym, ap, ◌∙◌, is_some, IsSome, slice_get, option_map}
+use Rattle.std.proofs.Common.{◌≡◌, Bool, true, false, cond, ◌&&◌, List, [], ◌∷◌, Option, Some, None, refl, sym, ap, ◌∙◌, is_some, slice_get}
 use Rattle.std.specs.Ordering.{is_lt}
 use Rattle.kola_values.specs.Values.{ValueTree}
 use Rattle.kola_values.specs.Types.{TypeTree, TSet}
@@ -44,24 +44,3 @@ first_of_no_type us u r e h = sym (by_first us u r e ∙ ap (λ o. typed_by o us
 pub first_of_type : (us : List ValueTree) (u : ValueTree) (t : TypeTree) → Rising us → Some u ≡ slice_get us 0 → Some t ≡ literal_type u → each_literal t us ≡ is_some (set_type us)
 unfolding typed_by
 first_of_type us u t r e h = sym (by_first us u r e ∙ ap (λ o. typed_by o us) (sym h))
-
--- ---- the type of a set constant
-
-is_type : (o : Option TypeTree) (v : ValueTree) (vs : List ValueTree) → IsSome (set_type_of o v vs) → option_map TSet o ≡ set_type_of o v vs
-is_type None v vs s = refl
-is_type (Some t) v vs s = at (each_literal t (v ∷ vs) && rises_from v vs) s
-  where
-    at : (b : Bool) → IsSome (cond b (Some (TSet t)) None) → Some (TSet t) ≡ cond b (Some (TSet t)) None
-    at true s = refl
-    at false s = absurd s
-
-pub type_by_first : (us : List ValueTree) (u : ValueTree) → IsSome (set_type us) → Some u ≡ slice_get us 0 → option_map TSet (literal_type u) ≡ set_type us
-type_by_first [] u s e = absurd s
-type_by_first (v ∷ vs) u s e = ap (λ w. option_map TSet (literal_type w)) (some_same u v e) ∙ is_type (literal_type v) v vs s
-  where
-    some_same : (a b : ValueTree) → Some a ≡ Some b → a ≡ b
-    some_same a b p = cc
-
-pub type_without_first : (us : List ValueTree) → None ≡ slice_get us 0 → None ≡ set_type us
-type_without_first [] e = refl
-type_without_first (u ∷ us) e = cc

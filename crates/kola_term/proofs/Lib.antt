@@ -12,6 +12,7 @@ pub mod Paths
 pub mod Kept
 pub mod Faulty
 pub mod Unique
+mod AlgebraExamples
 mod Weights
 mod WithoutLimit
 mod TypeAnswers

@@ -100,8 +100,8 @@ impl Judge<'_> {
     fn partial(&self, f: &Fun, c: &Const, t: &Ty) -> Result<Ty, TypeFault>
         ensures { IsTyping result (typing self.now.schema.now (context_of self.now.ctx.now) self.now.limited (FC (fun_tree f.now) (const_tree c.now)) (type_tree t.now)) }
     {
-        let constant = self.const_under(2, c)?;
-        let input = beside(self.alloc, constant, t)?;
+        let first = self.const_under(2, c)?;
+        let input = beside(self.alloc, first, t)?;
         self.fun_under(1, f, &input)
     }
 

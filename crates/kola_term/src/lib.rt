@@ -23,3 +23,6 @@ pub use meta::{MetaCtx, MetaTy};
 pub use term::{Fun, Pred, Term};
 pub use typing::{TypeFault, TypeWhy, out_type, pred_ok};
 pub use unlimited::{const_type, out_type_without_limit, pred_ok_without_limit};
+
+#[cfg(test)]
+mod typing_tests;

@@ -16,7 +16,10 @@ use kola_core::Memory;
 use kola_values::{Schema, Ty};
 use std::alloc::{AllocError, Global};
 
-/// The output type of a function at an input type; `None` exactly where it has none.
+/// The output type of a function at an input type, however large; `None` exactly where it is not typed there.
+///
+/// It takes time by the number of the term's nodes times the greatest number of nodes of a type that it meets, and a type
+/// may have many more nodes than the term: each pair of a value with itself doubles them.
 pub fn out_type_without_limit(
     alloc: Global,
     schema: &Schema,
@@ -39,7 +42,8 @@ pub fn out_type_without_limit(
     }
 }
 
-/// Whether a predicate is typed at an input type.
+/// Whether a predicate is typed at an input type, however large the types in it are. The cost is that of
+/// `out_type_without_limit`.
 pub fn pred_ok_without_limit(
     alloc: Global,
     schema: &Schema,
@@ -62,7 +66,8 @@ pub fn pred_ok_without_limit(
     }
 }
 
-/// The type of a constant; `None` exactly where it has none.
+/// The type of a constant; `None` exactly where it names no extent or no constant variable. It takes time by the number of
+/// nodes of the type and of names in the schema or the context.
 pub fn const_type(alloc: Global, schema: &Schema, ctx: &MetaCtx, c: &Const) -> Result<Option<Ty>, Memory>
     ensures { IfOk result (λ o. option_map type_tree o ≡ const_type schema.now (context_of ctx.now) (const_tree c.now)) }
 {

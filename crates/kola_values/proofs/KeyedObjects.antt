@@ -1,6 +1,6 @@
 -- Two objects clash exactly where a key says the same of them.
 use Rattle.std.proofs.Common.{◌≡◌, ℕ, ◌+◌, ◌<◌, Bool, true, false, not, ◌&&◌, ◌||◌, List, [], ◌∷◌, ◌++◌, Option, Some, None, map, flat_map, ap, sym, refl, ◌∙◌, arith, Less, Equal, Greater, Ordering}
-use mathlib.Core.Bool.{or_assoc, or-false, or-true}
+use mathlib.Core.Bool.{or-false, or-true}
 use Rattle.std.specs.List.{list_any, list_all}
 use Rattle.std.proofs.lemmas.List.Folds.{list_any-append}
 use Rattle.std.specs.Str.{bytes_eq}

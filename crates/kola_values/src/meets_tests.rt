@@ -1,6 +1,6 @@
 //! The test of objects against a schema: persons with their cars, and other lists of which each has one fault.
 use crate::{
-    ClassDef, Fields, Keys, ObjectDef, Schema, Set, Ty, Value, ValueFields, classes_ok, objects_ok,
+    ClassDef, Db, Fields, Keys, ObjectDef, Schema, Set, Ty, Value, ValueFields, classes_ok, objects_ok,
     shaped,
 };
 use kola_core::{Memory, Name, Names, Text};

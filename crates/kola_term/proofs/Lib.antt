@@ -2,6 +2,7 @@ pub mod Sample
 mod Examples
 mod LiteralLoop
 mod SetConstants
+mod Sizes
 pub mod Inversions
 pub mod Introductions
 pub mod Attributes
@@ -12,3 +13,6 @@ pub mod Kept
 pub mod Faulty
 pub mod Unique
 mod AlgebraExamples
+mod Weights
+mod WithoutLimit
+mod TypeAnswers

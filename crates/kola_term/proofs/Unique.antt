@@ -9,7 +9,8 @@ use Rattle.kola_term.specs.Places.{children, inputs, nth, flatten, sub_at, place
 use Rattle.kola_term.proofs.Inversions.{then_some, some_same, map_some, if_some, pair_some, join_some, nest_some, when_true}
 use Rattle.kola_term.proofs.Paths.{parts_typed}
 use Rattle.kola_term.proofs.Introductions.{bind, pair_is, one_is, some_ty, fun_some, pred_some, same_ty_itself}
-use Rattle.kola_term.specs.Faults.{TypeWhy, NotThisInput, OutputsDiffer, NoAttribute, NoExtent, WrongVariable, lacks, attr_own, unless, fun_own, pred_own, const_own, own, order, outputs, Small, Fine, ChildFine, FaultAt, f_own, f_child, f_outputs, f_large, Checked, typing, judged, Says}
+use Rattle.kola_term.specs.Faults.{TypeWhy, NotThisInput, OutputsDiffer, NoAttribute, NoExtent, WrongVariable, lacks, attr_own, unless, fun_own, pred_own, const_own, own, order, outputs, Small, Fine, ChildFine, FaultAt, f_own, f_child, f_outputs, f_large}
+use Rattle.kola_term.specs.Judging.{Checked, typing, judged, Says}
 use Rattle.kola_term.proofs.Paths.{nth_both}
 use Rattle.kola_term.proofs.Faulty.{In, first, later, child_fine, says, pred_ok_says, const_says}
 
@@ -182,8 +183,8 @@ module _ (S : Classes) (x : Context) where
       at (Err e) h = let p = one_fault t T e.0 q e.1 why h f in λ i. Err (p.0 i, p.1 i)
 
   -- and a fine function has the type that it answers
-  pub answers_type : (f : FunTree) (T u : TypeTree) → Fine S x (TermF f) T u → typing S x f T ≡ Ok u
-  answers_type f T u h = at (typing S x f T) (says S x f T)
+  pub answers_type : (f : FunTree) (T u : TypeTree) → Fine S x (TermF f) T u → typing S x true f T ≡ Ok u
+  answers_type f T u h = at (typing S x true f T) (says S x f T)
     where
       at : (r : Checked) → Says S x (TermF f) T r → r ≡ Ok u
       at (Ok v) g = ap Ok (some_same v u (sym g.0 ∙ h.0))

@@ -5,6 +5,8 @@ pub mod Visits
 pub mod Typing
 pub mod Places
 pub mod Faults
+pub mod Judging
 pub mod Agreement
 pub mod TermView
 pub mod ContextView
+pub mod TypingAnswers

@@ -2,6 +2,7 @@
 
 ghost use Rattle.std.specs.Prelude.{◌≡◌, ◌↔◌, IfOk, IfSome, IsSome, is_some, map};
 ghost use Rattle.std.specs.Option.{option_map};
+ghost use Rattle.kola_values.specs.Types.{TSet};
 ghost use Rattle.kola_values.specs.Views.{type_tree, value_tree};
 ghost use Rattle.kola_term.specs.Literals.{is_literal_of, each_literal, set_type, literal_type};
 ghost use Rattle.kola_term.specs.TermView.{const_tree};
@@ -126,6 +127,15 @@ impl LitSet {
         ensures { IsSome (set_type self.now) }
     {
         let _set = &self.set;
+    }
+
+    /// The type of its members.
+    pub(crate) fn member_type(&self) -> Option<Ty>
+        ensures { option_map (λ t. TSet (type_tree t)) result ≡ set_type self.now }
+    {
+        self.well_formed();
+        let first = self.set.get(0)?;
+        literal_type(first)
     }
 
     /// A set equal to it.

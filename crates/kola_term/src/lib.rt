@@ -2,10 +2,15 @@
 #![tactic(auto)]
 
 mod constant;
+mod inputs;
+mod judge;
+mod judging;
 mod laws;
 pub mod make;
 mod meta;
+mod size;
 mod term;
+mod typing;
 mod unlimited;
 
 pub use constant::{Const, LitSet};
@@ -16,4 +21,8 @@ pub use laws::{
 };
 pub use meta::{MetaCtx, MetaTy};
 pub use term::{Fun, Pred, Term};
+pub use typing::{TypeFault, TypeWhy, out_type, pred_ok};
 pub use unlimited::{const_type, out_type_without_limit, pred_ok_without_limit};
+
+#[cfg(test)]
+mod typing_tests;

@@ -1,6 +1,5 @@
 -- A loop over the attributes of two keys, each with its object, and lists of what keys say.
 use Rattle.std.proofs.Common.{◌≡◌, ℕ, ◌+◌, ◌<◌, min, List, [], ◌∷◌, length, get_or, map, sym, ap, ap₂, refl, ◌∙◌, arith, Bool, not, ◌&&◌, Equal, Ordering}
-use Rattle.std.specs.List.{list_any}
 use Rattle.std.specs.Ordering.{nat_cmp}
 use Rattle.std.specs.Cmp.Lexicographic.{slice_cmp}
 use Rattle.std.proofs.lemmas.List.{get_or-map, length-map}

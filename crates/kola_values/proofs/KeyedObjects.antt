@@ -1,11 +1,11 @@
 -- Two objects clash exactly where a key says the same of them.
-use Rattle.std.proofs.Common.{◌≡◌, ℕ, zero, suc, ◌+◌, ◌<◌, ◌≤◌, Bool, true, false, not, ◌&&◌, ◌||◌, true≢false, List, [], ◌∷◌, ◌++◌, Option, Some, None, map, flat_map, length, get_or, drop, ap, ap₂, sym, refl, subst, ◌∙◌, arith, Less, Equal, Greater, Ordering}
-use mathlib.Core.Bool.{or_assoc, or_comm, or-false, and_assoc, and-false, or-true}
+use Rattle.std.proofs.Common.{◌≡◌, ℕ, ◌+◌, ◌<◌, Bool, true, false, not, ◌&&◌, ◌||◌, List, [], ◌∷◌, ◌++◌, Option, Some, None, map, flat_map, ap, sym, refl, ◌∙◌, arith, Less, Equal, Greater, Ordering}
+use mathlib.Core.Bool.{or_assoc, or-false, or-true}
 use Rattle.std.specs.List.{list_any, list_all}
+use Rattle.std.proofs.lemmas.List.Folds.{list_any-append}
 use Rattle.std.specs.Str.{bytes_eq}
-use Rattle.std.specs.Ordering.{is_eq, is_lt, ordering_then, ordering_reverse}
+use Rattle.std.specs.Ordering.{is_eq, ordering_then, ordering_reverse}
 use Rattle.std.specs.Cmp.{IsTotalOrder}
-use Rattle.std.specs.Cmp.Lexicographic.{slice_cmp}
 use Rattle.std.proofs.lemmas.Cmp.{lists_total}
 use Rattle.kola_values.specs.Values.{ValueTree, VObj}
 use Rattle.kola_values.specs.Order.{cmp, same}
@@ -15,8 +15,8 @@ use Rattle.kola_values.specs.MeetsTests.{no_two, agree_at, clash, keys_are_met}
 use Rattle.kola_values.specs.KeyedObjects.{value_at_name, keyed, keyed_from, all_keyed, keyed_objects, cmp_keyed, same_keyed}
 use Rattle.kola_values.specs.Models.Total.{cmp_total}
 use Rattle.kola_values.proofs.Anys.{equal, same_itself}
-use Rattle.kola_values.proofs.SameTypes.{name_equal, name_itself}
-use Rattle.kola_values.proofs.MeetingTypes.{class_part, other_class}
+use Rattle.kola_values.proofs.SameTypes.{name_equal}
+use Rattle.kola_values.proofs.MeetingTypes.{other_class}
 
 pub cmp_keyed_total : IsTotalOrder cmp_keyed
 cmp_keyed_total = lists_total cmp_total
@@ -35,10 +35,6 @@ then_eq Equal b = refl
 then_eq Greater b = refl
 
 -- ---- some element of a list made of lists
-
-any_joined : {A : Type 0} (q : A → Bool) (xs ys : List A) → list_any q (xs ++ ys) ≡ (list_any q xs || list_any q ys)
-any_joined q [] ys = refl
-any_joined q (x ∷ xs) ys = ap (λ b. q x || b) (any_joined q xs ys) ∙ sym (or_assoc (q x) (list_any q xs) (list_any q ys))
 
 none_of : {A : Type 0} (xs : List A) → list_any (λ _. false) xs ≡ false
 none_of [] = refl
@@ -61,7 +57,7 @@ any_alike p q (x ∷ xs) f = λ j. f x j || any_alike p q xs f j
 across : {A B : Type 0} (r : A → A → Bool) (f : B → List A) (xs : List A) (bs : List B) → list_any (λ x. list_any (r x) (flat_map f bs)) xs ≡ list_any (λ b. list_any (λ x. list_any (r x) (f b)) xs) bs
 across r f xs [] = none_of xs
 across r f xs (b ∷ bs) =
-    any_alike (λ x. list_any (r x) (f b ++ flat_map f bs)) (λ x. list_any (r x) (f b) || list_any (r x) (flat_map f bs)) xs (λ x. any_joined (r x) (f b) (flat_map f bs))
+    any_alike (λ x. list_any (r x) (f b ++ flat_map f bs)) (λ x. list_any (r x) (f b) || list_any (r x) (flat_map f bs)) xs (λ x. list_any-append (r x) (f b) (flat_map f bs))
     ∙ any_either (λ x. list_any (r x) (f b)) (λ x. list_any (r x) (flat_map f bs)) xs
     ∙ ap (λ c. list_any (λ x. list_any (r x) (f b)) xs || c) (across r f xs bs)
 
@@ -72,8 +68,8 @@ no_two_joined r (x ∷ xs) ys h = at (list_any (r x) xs) refl (list_any (r x) ys
     at : (a : Bool) → list_any (r x) xs ≡ a → (b : Bool) → list_any (r x) ys ≡ b → (not a && no_two r xs) ≡ true → (no_two r xs ≡ true → no_two r (xs ++ ys) ≡ (not (list_any (λ z. list_any (r z) ys) xs) && no_two r ys))
         → (not (list_any (r x) (xs ++ ys)) && no_two r (xs ++ ys)) ≡ (not (b || list_any (λ z. list_any (r z) ys) xs) && no_two r ys)
     at true e b f h k = absurd (cc)
-    at false e true f h k = ap (λ c. not c && no_two r (xs ++ ys)) (any_joined (r x) xs ys ∙ (λ j. e j || f j))
-    at false e false f h k = (λ j. not ((any_joined (r x) xs ys ∙ (λ i. e i || f i)) j) && k h j)
+    at false e true f h k = ap (λ c. not c && no_two r (xs ++ ys)) (list_any-append (r x) xs ys ∙ (λ j. e j || f j))
+    at false e false f h k = (λ j. not ((list_any-append (r x) xs ys ∙ (λ i. e i || f i)) j) && k h j)
 
 -- what is made of one element has no two, so what counts is what is made of two
 no_two_made : {A B : Type 0} (r : A → A → Bool) (f : B → List A) (bs : List B) → ((b : B) → no_two r (f b) ≡ true) → no_two r (flat_map f bs) ≡ no_two (λ b c. list_any (λ x. list_any (r x) (f c)) (f b)) bs

@@ -1,12 +1,12 @@
 -- The test of objects against a schema at a sample: persons with their cars.
 use Rattle.std.proofs.Common.{◌≡◌, ℕ, true, false, List, [], ◌∷◌, Some, codes, refl, pos}
 use Rattle.kola_values.specs.Values.{ValueTree, VInt, VStr, VObj, VSet, of_items}
-use Rattle.kola_values.specs.Types.{TInt, TSet, TClass}
-use Rattle.kola_values.specs.Databases.{Object, Objects}
+use Rattle.kola_values.specs.Types.{TSet, TClass}
+use Rattle.kola_values.specs.Databases.{Object}
 use Rattle.kola_values.specs.Order.{same}
 use Rattle.kola_values.specs.Sets.{any}
 use Rattle.kola_values.specs.MeetsTests.{has_type, clash, keys_are_met, meets}
-use Rattle.kola_values.proofs.SchemaExamples.{person, person_keys, sample}
+use Rattle.kola_values.proofs.SchemaExamples.{person, sample}
 
 -- a person with an ssn, a first and a last name, whose one car is the vehicle of the id
 abbrev someone : ℕ → List ℕ → List ℕ → List ℕ → ValueTree → Object

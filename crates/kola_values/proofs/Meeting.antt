@@ -1,5 +1,5 @@
 -- The test of objects against a schema answers true exactly where they meet it.
-use Rattle.std.proofs.Common.{◌≡◌, ◌↔◌, ◌⊎◌, inl, inr, ℕ, zero, suc, ◌<◌, ◌≤◌, Bool, true, false, not, cond, true≢false, ◌&&◌, ◌||◌, List, [], ◌∷◌, Option, Some, None, map, ap, sym, refl, subst, ◌∙◌, arith}
+use Rattle.std.proofs.Common.{◌≡◌, ◌⊎◌, inl, inr, ℕ, zero, suc, Bool, true, false, not, cond, true≢false, ◌&&◌, ◌||◌, List, [], ◌∷◌, Option, Some, None, ap, sym, refl, subst, ◌∙◌, arith}
 use mathlib.Core.Bool.{or-true}
 use Rattle.std.specs.List.{list_any, list_all, slice_get}
 use Rattle.std.specs.Option.{option_and_then}
@@ -11,21 +11,18 @@ use Rattle.kola_values.specs.Types.{TypeTree, TClass}
 use Rattle.kola_values.specs.Order.{same}
 use Rattle.kola_values.specs.Sets.{Each, any, has}
 use Rattle.kola_values.specs.WellFormed.{WellFormed}
-use Rattle.kola_values.specs.Databases.{Class, Object, Classes, Objects, look_up, value_or_unit, attribute_of, attribute_type, HasType}
+use Rattle.kola_values.specs.Databases.{Class, Object, Classes, Objects, look_up, value_or_unit, attribute_of, HasType}
 use Rattle.kola_values.specs.Schemas.{is_listed, are_distinct, names_of, class_named, key_at}
 use Rattle.kola_values.specs.Meets.{FitsClass, NoneTwice, object_values, agree_on, Meets}
-use Rattle.kola_values.specs.MeetsTests.{typed_by, is_there, IsHeld, no_two, same_object, is_value_of, are_typed, are_whole, fits_class, agree_at, clash, all_fit, keys_are_met, meets}
+use Rattle.kola_values.specs.MeetsTests.{is_there, IsHeld, no_two, same_object, is_value_of, are_typed, are_whole, fits_class, agree_at, clash, all_fit, keys_are_met, meets}
 use Rattle.kola_values.proofs.Anys.{bool_same, equal, same_itself, same_comm}
-use Rattle.kola_values.proofs.SameTypes.{both_true, name_equal, name_itself}
+use Rattle.kola_values.proofs.NameTests.{not_true}
+use Rattle.kola_values.proofs.SameTypes.{and_true, both_true, name_equal, name_itself}
 use Rattle.kola_values.proofs.Schemas.{attribute_of_class}
-use Rattle.kola_values.proofs.MeetingTypes.{both_hold, class_part, there_exactly, typed_from, typed_to}
+use Rattle.kola_values.proofs.MeetingTypes.{class_part, there_exactly, typed_from, typed_to}
 
 abbrev pub value_of_object : Object → ValueTree
 value_of_object o = VObj o.class o.id
-
-not_true : (b : Bool) → not b ≡ true → b ≡ false
-not_true false h = refl
-not_true true h = absurd (cc)
 
 -- ---- elements of a list
 
@@ -78,7 +75,7 @@ none_twice_from (o ∷ d) h =
 
 pub none_twice_to : (d : Objects) → NoneTwice (object_values d) → no_two same_object d ≡ true
 none_twice_to [] h = refl
-none_twice_to (o ∷ d) h = both_hold _ _ (ap not (apart (value_of_object o) d ∙ h.0)) (none_twice_to d h.1)
+none_twice_to (o ∷ d) h = and_true _ _ (ap not (apart (value_of_object o) d ∙ h.0)) (none_twice_to d h.1)
 
 in_has : (d : Objects) (o : Object) → In o d → has (value_of_object o) (object_values d) ≡ true
 in_has d o i = sym (apart (value_of_object o) d) ∙ any_in (same_object o) d o i (same_itself (value_of_object o))
@@ -144,7 +141,7 @@ clash_from S c n key o p h e f k = ap (λ m. clash (class_named S m) o p) e ∙ 
   where
     at : (m : Option Class) → option_and_then (λ (t : Class). slice_get t.keys n) m ≡ Some key → clash m o p ≡ true
     at None g = absurd (cc)
-    at (Some t) g = both_hold _ _ (ap (bytes_eq o.class) (f ∙ sym e) ∙ name_itself o.class) (key_found (λ l. list_all (λ a. agree_at o p a) l) t.keys n key g k)
+    at (Some t) g = and_true _ _ (ap (bytes_eq o.class) (f ∙ sym e) ∙ name_itself o.class) (key_found (λ l. list_all (λ a. agree_at o p a) l) t.keys n key g k)
 
 clash_to : (S : Classes) (o p : Object) → clash (class_named S o.class) o p ≡ true → (n : ℕ) × (key : List (List ℕ)) × (key_at S o.class n ≡ Some key) × (list_all (λ a. agree_at o p a) key ≡ true) × (p.class ≡ o.class)
 clash_to S o p h = at (class_named S o.class) h
@@ -171,7 +168,7 @@ keys_from S d twice h c n key v w k tv tw agree =
 
 keys_to : (S : Classes) (d : Objects) → NoneTwice (object_values d) → KeysMet S d → (l : Objects) → ((o : Object) → In o l → In o d) → NoneTwice (object_values l) → keys_are_met S l ≡ true
 keys_to S d twice keys [] within n = refl
-keys_to S d twice keys (o ∷ l) within n = both_hold _ _ (ap not (at (list_any (clash (class_named S o.class) o) l) refl)) (keys_to S d twice keys l (λ p i. within p (inr i)) n.1)
+keys_to S d twice keys (o ∷ l) within n = and_true _ _ (ap not (at (list_any (clash (class_named S o.class) o) l) refl)) (keys_to S d twice keys l (λ p i. within p (inr i)) n.1)
   where
     at : (b : Bool) → list_any (clash (class_named S o.class) o) l ≡ b → b ≡ false
     at false e = refl
@@ -227,7 +224,7 @@ module _ {A : Type 0} where
   all_looked q [] d f = refl
   all_looked q (e ∷ es) d f =
       let p = both_true (not (is_listed e.0 (names_of es))) (are_distinct (names_of es)) d in
-      both_hold _ _ (f e.0 e.1 (ap (λ b. cond b (Some e.1) (look_up e.0 es)) (name_itself e.0))) (all_looked q es p.1 (λ a v h. f a v (later a v h (not_true (is_listed e.0 (names_of es)) p.0))))
+      and_true _ _ (f e.0 e.1 (ap (λ b. cond b (Some e.1) (look_up e.0 es)) (name_itself e.0))) (all_looked q es p.1 (λ a v h. f a v (later a v h (not_true (is_listed e.0 (names_of es)) p.0))))
     where
       later : (a : List ℕ) (v : A) → look_up a es ≡ Some v → is_listed e.0 (names_of es) ≡ false → look_up a (e ∷ es) ≡ Some v
       later a v h n = at (bytes_eq a e.0) refl
@@ -238,7 +235,7 @@ module _ {A : Type 0} where
 
   all_listed : (p : List ℕ → Bool) (es : List (List ℕ × A)) → ((a : List ℕ) → is_listed a (names_of es) ≡ true → p a ≡ true) → list_all (λ e. p e.0) es ≡ true
   all_listed p [] f = refl
-  all_listed p (e ∷ es) f = both_hold _ _ (f e.0 (ap (λ b. b || is_listed e.0 (names_of es)) (name_itself e.0))) (all_listed p es (λ a h. f a (ap (λ b. bytes_eq a e.0 || b) h ∙ or-true (bytes_eq a e.0))))
+  all_listed p (e ∷ es) f = and_true _ _ (f e.0 (ap (λ b. b || is_listed e.0 (names_of es)) (name_itself e.0))) (all_listed p es (λ a h. f a (ap (λ b. bytes_eq a e.0 || b) h ∙ or-true (bytes_eq a e.0))))
 
 -- ---- an object and its class
 
@@ -288,7 +285,7 @@ fits_to : (S : Classes) (d : Objects) (o : Object) → FitsClass S d o → fits_
 fits_to S d o f =
     let low = f.id_low in
     ap (λ m. fits_class (is_there d) m o) f.is
-    ∙ both_hold _ _ (both_hold _ _ (both_hold _ _ (lt-ltb 0 o.id (omega arith)) f.once) typed) (all_listed (λ a. is_listed a (names_of o.values)) f.class.attributes (λ a h. f.exactly a ∙ h))
+    ∙ and_true _ _ (and_true _ _ (and_true _ _ (lt-ltb 0 o.id (omega arith)) f.once) typed) (all_listed (λ a. is_listed a (names_of o.values)) f.class.attributes (λ a h. f.exactly a ∙ h))
   where
     typed : are_typed (is_there d) f.class.attributes o.values ≡ true
     typed = all_looked (λ e. is_value_of (is_there d) (look_up e.0 f.class.attributes) e.1) o.values f.once (λ a v h.
@@ -304,7 +301,7 @@ each_fits_from S d (o ∷ l) held h =
 
 each_fits_to : (S : Classes) (d l : Objects) → Each (FitsClass S d) l → all_fit S d l ≡ true
 each_fits_to S d [] h = refl
-each_fits_to S d (o ∷ l) h = both_hold _ _ (fits_to S d o h.0) (each_fits_to S d l h.1)
+each_fits_to S d (o ∷ l) h = and_true _ _ (fits_to S d o h.0) (each_fits_to S d l h.1)
 
 -- ---- a database and its schema
 
@@ -316,4 +313,4 @@ meets_from S d held h =
     record { distinct = twice; fits = each_fits_from S d d held q.1; keys = keys_from S d twice p.1 }
 
 pub meets_to : (S : Classes) (d : Objects) → Meets S d → meets S d ≡ true
-meets_to S d m = both_hold _ _ (both_hold _ _ (none_twice_to d m.distinct) (each_fits_to S d d m.fits)) (keys_to S d m.distinct m.keys d (λ o i. i) m.distinct)
+meets_to S d m = and_true _ _ (and_true _ _ (none_twice_to d m.distinct) (each_fits_to S d d m.fits)) (keys_to S d m.distinct m.keys d (λ o i. i) m.distinct)

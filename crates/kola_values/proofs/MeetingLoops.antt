@@ -1,5 +1,5 @@
 -- Loops of the tests of values and objects.
-use Rattle.std.proofs.Common.{◌≡◌, ℕ, ◌+◌, ◌-◌, ◌<◌, ◌≤◌, Bool, true, false, not, ◌&&◌, ◌||◌, List, [], ◌∷◌, length, get_or, map, take, drop, refl, sym, ap, ◌∙◌, arith, cond, Option, Some, None}
+use Rattle.std.proofs.Common.{◌≡◌, ℕ, ◌+◌, ◌-◌, ◌<◌, ◌≤◌, Bool, true, false, not, ◌&&◌, ◌||◌, List, [], ◌∷◌, length, get_or, map, take, drop, refl, sym, ap, ◌∙◌, arith, cond, Option, Some}
 use mathlib.Core.Bool.{and-false}
 use Rattle.std.specs.List.{list_any, list_all, find}
 use Rattle.std.specs.Option.{option_map}
@@ -11,7 +11,7 @@ use Rattle.kola_core.proofs.Lists.{left_less, length_seen}
 use Rattle.kola_values.specs.Values.{ValueTree, VObj, VSet, of_items, of_fields}
 use Rattle.kola_values.specs.Types.{TypeTree, TSet, of_type_fields}
 use Rattle.kola_values.specs.Order.{same}
-use Rattle.kola_values.specs.Sets.{any, has}
+use Rattle.kola_values.specs.Sets.{any}
 use Rattle.kola_values.specs.Databases.{look_up}
 use Rattle.kola_values.specs.Schemas.{is_listed, are_distinct, names_of}
 use Rattle.kola_values.specs.Meets.{object_values}

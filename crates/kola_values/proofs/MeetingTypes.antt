@@ -11,10 +11,7 @@ use Rattle.kola_values.specs.WellFormed.{WellFormed, WellFormedMembers, WellForm
 use Rattle.kola_values.specs.Encoding.{Shaped, ShapedFields}
 use Rattle.kola_values.specs.MeetsTests.{typed_by, fields_typed_by, is_there, has_type, anything}
 use Rattle.kola_values.proofs.Anys.{equal}
-use Rattle.kola_values.proofs.SameTypes.{both_true, name_equal, name_itself}
-
-pub both_hold : (a b : Bool) → a ≡ true → b ≡ true → (a && b) ≡ true
-both_hold a b h k = rw (h, k)
+use Rattle.kola_values.proofs.SameTypes.{and_true, both_true, name_equal, name_itself}
 
 -- ---- the objects of a class
 
@@ -72,19 +69,19 @@ module _ (d : Objects) where
     typed_to (VStr s) TStr h = refl
     typed_to (VBool b) TBool h = refl
     typed_to VUnit TUnit h = refl
-    typed_to (VObj c i) (TClass e) h = both_hold _ _ (ap (bytes_eq c) (sym h.0) ∙ name_itself c) (sym (there_exactly d c i) ∙ h.1)
+    typed_to (VObj c i) (TClass e) h = and_true _ _ (ap (bytes_eq c) (sym h.0) ∙ name_itself c) (sym (there_exactly d c i) ∙ h.1)
     typed_to (VSet vs) (TSet t) h = members_to vs t h.1
-    typed_to (VPair a b) (TPair t u) h = both_hold _ _ (typed_to a t h.0) (typed_to b u h.1)
+    typed_to (VPair a b) (TPair t u) h = and_true _ _ (typed_to a t h.0) (typed_to b u h.1)
     typed_to (VStruct fs) (TStruct ts) h = fields_to fs ts h
     typed_to _ _ h = absurd h
 
     members_to : (vs : MemberValues) (t : TypeTree) → Each (λ v. HasType d v t) (items vs) → list_all (λ v. typed_by (is_there d) v t) (items vs) ≡ true
     members_to VNone t h = refl
-    members_to (VMore v vs) t h = both_hold _ _ (typed_to v t h.0) (members_to vs t h.1)
+    members_to (VMore v vs) t h = and_true _ _ (typed_to v t h.0) (members_to vs t h.1)
 
     fields_to : (fs : FieldValues) (ts : FieldTypes) → HaveTypes d fs ts → fields_typed_by (is_there d) fs ts ≡ true
     fields_to VEnd TEnd h = refl
-    fields_to (VField l v fs) (TField m t ts) h = both_hold _ _ (both_hold _ _ (ap (bytes_eq l) (sym h.0) ∙ name_itself l) (typed_to v t h.1)) (fields_to fs ts h.2)
+    fields_to (VField l v fs) (TField m t ts) h = and_true _ _ (and_true _ _ (ap (bytes_eq l) (sym h.0) ∙ name_itself l) (typed_to v t h.1)) (fields_to fs ts h.2)
     fields_to _ _ h = absurd h
 
   pub typed_exactly : (v : ValueTree) (t : TypeTree) → WellFormed v → ((has_type d v t ≡ true) ↔ HasType d v t)
@@ -122,19 +119,19 @@ mutual
   shaped_to (VStr s) TStr h = refl
   shaped_to (VBool b) TBool h = refl
   shaped_to VUnit TUnit h = refl
-  shaped_to (VObj c i) (TClass e) h = both_hold _ _ (ap (bytes_eq c) (sym h) ∙ name_itself c) refl
+  shaped_to (VObj c i) (TClass e) h = and_true _ _ (ap (bytes_eq c) (sym h) ∙ name_itself c) refl
   shaped_to (VSet vs) (TSet t) h = members_shaped_to vs t h.1
-  shaped_to (VPair a b) (TPair t u) h = both_hold _ _ (shaped_to a t h.0) (shaped_to b u h.1)
+  shaped_to (VPair a b) (TPair t u) h = and_true _ _ (shaped_to a t h.0) (shaped_to b u h.1)
   shaped_to (VStruct fs) (TStruct ts) h = fields_shaped_to fs ts h
   shaped_to _ _ h = absurd h
 
   members_shaped_to : (vs : MemberValues) (t : TypeTree) → Each (λ v. Shaped v t) (items vs) → list_all (λ v. typed_by anything v t) (items vs) ≡ true
   members_shaped_to VNone t h = refl
-  members_shaped_to (VMore v vs) t h = both_hold _ _ (shaped_to v t h.0) (members_shaped_to vs t h.1)
+  members_shaped_to (VMore v vs) t h = and_true _ _ (shaped_to v t h.0) (members_shaped_to vs t h.1)
 
   fields_shaped_to : (fs : FieldValues) (ts : FieldTypes) → ShapedFields fs ts → fields_typed_by anything fs ts ≡ true
   fields_shaped_to VEnd TEnd h = refl
-  fields_shaped_to (VField l v fs) (TField m t ts) h = both_hold _ _ (both_hold _ _ (ap (bytes_eq l) (sym h.0) ∙ name_itself l) (shaped_to v t h.1)) (fields_shaped_to fs ts h.2)
+  fields_shaped_to (VField l v fs) (TField m t ts) h = and_true _ _ (and_true _ _ (ap (bytes_eq l) (sym h.0) ∙ name_itself l) (shaped_to v t h.1)) (fields_shaped_to fs ts h.2)
   fields_shaped_to _ _ h = absurd h
 
 pub shaped_exactly : (v : ValueTree) (t : TypeTree) → WellFormed v → ((typed_by anything v t ≡ true) ↔ Shaped v t)

@@ -1,5 +1,5 @@
 -- A sorted list has no two equal elements exactly where no element is equal to the next.
-use Rattle.std.proofs.Common.{◌≡◌, ℕ, zero, suc, ◌+◌, ◌<◌, length, get_or, Bool, true, false, not, ◌&&◌, ◌||◌, List, [], ◌∷◌, map, sym, ◌∙◌, ap, refl, subst, arith, add-one, Less, Equal, Greater, Ordering}
+use Rattle.std.proofs.Common.{◌≡◌, ℕ, zero, suc, ◌+◌, ◌<◌, length, get_or, Bool, true, false, not, ◌&&◌, ◌||◌, List, [], ◌∷◌, map, sym, ◌∙◌, ap, refl, arith, add-one, Less, Equal, Greater, Ordering}
 use mathlib.Core.Bool.{and-false}
 use Rattle.std.specs.List.{list_any, AllByRecursion, IsDistinct, IsAllAdjacentAnswer, AllAdjacentBelow}
 use Rattle.std.specs.List.Sorted.{IsPermutation, IsSortedBy}
@@ -7,25 +7,16 @@ use Rattle.std.specs.Ordering.{is_lt, is_eq, ordering_reverse}
 use Rattle.std.specs.Cmp.{IsTotalOrder}
 use Rattle.std.proofs.lemmas.List.Sorted.{IsPermutation-sym}
 use Rattle.std.proofs.lemmas.Map.Keys.{IsDistinct-IsPermutation}
-use Rattle.std.specs.Bool.{OnTrue}
 use Rattle.kola_values.specs.Values.{ValueTree, VObj}
 use Rattle.kola_values.specs.Order.{cmp, same}
-use Rattle.kola_values.specs.Sets.{Rising}
 use Rattle.kola_values.specs.Models.Total.{cmp_total}
-use Rattle.kola_values.specs.Meets.{object_values}
 use Rattle.kola_values.specs.MeetsTests.{no_two, same_object}
 use Rattle.kola_values.specs.ObjectViews.{object_tree}
 use Rattle.kola_values.specs.declared.object.ObjectDef.{ObjectDef}
-use Rattle.kola_values.proofs.MeetingLoops.{values_seen}
 use Rattle.kola_values.proofs.KeyLoops.{no_two_seen}
 use Rattle.kola_values.proofs.Anys.{bool_same}
-use Rattle.kola_values.proofs.SameTypes.{both_true}
-use Rattle.kola_values.proofs.NameTests.{both_false}
-use Rattle.kola_values.proofs.MeetingTypes.{both_hold}
-
-not_true : (b : Bool) → not b ≡ true → b ≡ false
-not_true false h = refl
-not_true true h = absurd (cc)
+use Rattle.kola_values.proofs.SameTypes.{and_true, both_true}
+use Rattle.kola_values.proofs.NameTests.{both_false, not_true}
 
 -- ---- the order of the elements does not tell
 
@@ -96,7 +87,7 @@ module _ {K : Type 0} (R : K → K → Ordering) (total : IsTotalOrder R) {X : T
   none_tied : (xs : List X) → Ascends xs → no_two tied xs ≡ true
   none_tied [] h = refl
   none_tied (x ∷ []) h = refl
-  none_tied (x ∷ y ∷ ys) h = both_hold _ _ (ap not (from_none_related tied x (y ∷ ys) (above_first x (y ∷ ys) h))) (none_tied (y ∷ ys) h.1)
+  none_tied (x ∷ y ∷ ys) h = and_true _ _ (ap not (from_none_related tied x (y ∷ ys) (above_first x (y ∷ ys) h))) (none_tied (y ∷ ys) h.1)
 
   two_tied : (xs : List X) (k : ℕ) → k + 1 < length xs → ((d : X) → tied (get_or xs k d) (get_or xs (k + 1) d) ≡ true) → no_two tied xs ≡ false
   two_tied [] k p h = absurd (omega arith)

@@ -220,7 +220,7 @@ fn all_held(objects: &[ObjectDef])
 /// Whether the objects are a database of the schema: no two objects of a class have one id, each object is of a class of the schema, has an
 /// id from 1 and exactly the attributes of its class, each once and with a value of its type, in which each object that is named is one of
 /// the list, and no two objects of a class agree on all attributes of one of its keys. It takes no memory: it compares each object with each
-/// other, in time by the square of the number of objects.
+/// other, in time by the square of the number of objects. `Db::try_make` is the fast way.
 pub fn objects_ok(schema: &Schema, objects: &[ObjectDef]) -> bool
     ensures { (result ≡ true) ↔ Meets schema.now (map object_tree objects.now) }
 {

@@ -1,7 +1,7 @@
 //! The test of objects against a schema: persons with their cars, and other lists of which each has one fault.
 use crate::{
-    ClassDef, Db, Fields, Keys, ObjectDef, Schema, Set, Ty, Value, ValueFields, classes_ok, objects_ok,
-    shaped,
+    ClassDef, Db, Fields, Keys, ObjectDef, ObjectsRefused, Schema, Set, Ty, Value, ValueFields,
+    classes_ok, objects_ok, shaped,
 };
 use kola_core::{Memory, Name, Names, Text};
 use std::alloc::Global;
@@ -66,13 +66,15 @@ fn are_accepted(alloc: Global, objects: &[ObjectDef]) -> Result<bool, Memory> {
     }
 }
 
-fn makes_a_database(alloc: Global, objects: Vec<ObjectDef>) -> Result<bool, Memory> {
+// Whether they make a database; nothing where memory is wanted.
+fn made(alloc: Global, objects: Vec<ObjectDef>) -> Result<Option<bool>, Memory> {
     let Some(schema) = schema(alloc)? else {
-        return Ok(false);
+        return Ok(None);
     };
     match Db::try_make(alloc, &schema, objects) {
-        Ok(_) => Ok(true),
-        Err(_) => Ok(false),
+        Ok(_) => Ok(Some(true)),
+        Err(ObjectsRefused::NotMet) => Ok(Some(false)),
+        Err(ObjectsRefused::Memory) => Ok(None),
     }
 }
 
@@ -128,8 +130,8 @@ fn is_taken(alloc: Global, object: ObjectDef) -> Result<bool, Memory> {
     let mut objects = sample(alloc)?;
     objects.push(object)?;
     let accepted = are_accepted(alloc, objects.as_slice())?;
-    let made = makes_a_database(alloc, objects)?;
-    Ok(accepted && made)
+    let made = made(alloc, objects)?;
+    Ok(accepted && matches!(made, Some(true)))
 }
 
 // Whether it is refused, by both ways.
@@ -137,8 +139,8 @@ fn is_refused(alloc: Global, object: ObjectDef) -> Result<bool, Memory> {
     let mut objects = sample(alloc)?;
     objects.push(object)?;
     let accepted = are_accepted(alloc, objects.as_slice())?;
-    let made = makes_a_database(alloc, objects)?;
-    Ok(!accepted && !made)
+    let made = made(alloc, objects)?;
+    Ok(!accepted && matches!(made, Some(false)))
 }
 
 #[test]

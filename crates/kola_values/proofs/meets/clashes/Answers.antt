@@ -1,4 +1,4 @@
-use Rattle.std.proofs.Common.{◌∙◌, sym, ap, refl}
+use Rattle.std.proofs.Common.{◌∙◌, sym, ap}
 use Rattle.std.specs.Option.{option_map}
 use Rattle.kola_values.specs.MeetsTests.{clash}
 use Rattle.kola_values.specs.SchemaViews.{class_at}

@@ -4,7 +4,7 @@ use Rattle.std.specs.Prelude.{ltb}
 use Rattle.std.proofs.lemmas.Bool.{lt-ltb, le-ltb}
 use Rattle.kola_values.specs.Databases.{look_up}
 use Rattle.kola_values.specs.Schemas.{are_distinct, names_of}
-use Rattle.kola_values.specs.MeetsTests.{is_value_of, are_typed, are_whole}
+use Rattle.kola_values.specs.MeetsTests.{is_value_of, are_typed}
 use Rattle.kola_values.proofs.MeetingLoops.{then_holds, else_fails, distinct_labels, typed_entries, whole_entries}
 use Rattle.kola_values.proofs.meets.fits_class.Goals as goal
 use Rattle.kola_values.proofs.meets.fits_class.Goals.{then-object-gt0, else-object-gt0, then-labels_are_distinct, else-labels_are_distinct}

@@ -1,12 +1,10 @@
 use Rattle.std.proofs.Common.{◌≡◌, true, false, true≢false, map, ap, sym, ◌∙◌, rules, subst}
-use Rattle.std.specs.List.Sorted.{IsPermutation, IsSortedBy}
+use Rattle.std.specs.List.Sorted.{IsSortedBy}
 use Rattle.std.specs.Ordering.{is_lt}
 use Rattle.std.proofs.lemmas.Fn.{always_returns_same}
 use Rattle.std.proofs.lemmas.List.Sorted.{ranks_by, IsPermutation-map, IsPermutation-sym, IsPermutation-trans}
 use Rattle.kola_values.specs.Order.{cmp}
 use Rattle.kola_values.specs.Sets.{Each}
-use Rattle.kola_values.specs.Databases.{Objects}
-use Rattle.kola_values.specs.Meets.{Meets}
 use Rattle.kola_values.specs.MeetsTests.{IsHeld, meets}
 use Rattle.kola_values.specs.ObjectViews.{object_tree}
 use Rattle.kola_values.specs.Models.Total.{cmp_total}

@@ -5,7 +5,7 @@ use Rattle.kola_values.specs.Databases.{Object}
 use Rattle.kola_values.specs.Schemas.{class_named}
 use Rattle.kola_values.specs.MeetsTests.{is_there, no_two, same_object, fits_class, all_fit, keys_are_met}
 use Rattle.kola_values.specs.ObjectViews.{object_tree}
-use Rattle.kola_values.proofs.MeetingTypes.{both_hold}
+use Rattle.kola_values.proofs.SameTypes.{and_true}
 use Rattle.kola_values.proofs.MeetingLoops.{then_holds, else_fails}
 use Rattle.kola_values.proofs.meets.sorted_meet.Goals as goal
 
@@ -22,4 +22,4 @@ returns c =
     let d = map object_tree c.args.objects.now in
     let fit : all_fit S d d ≡ true = list_all-map (λ (o : Object). fits_class (is_there d) (class_named S o.class) o) object_tree c.args.objects.now ∙ sym c.all_fit.ensures ∙ c.if-not-all_fit.false in
     let apart : no_two same_object d ≡ true = sym c.objects_rise.ensures ∙ c.if-not-objects_rise.false in
-    subst (λ m. IfOk c.keys_are_apart.result (λ b. b ≡ m)) (then_holds (no_two same_object d && all_fit S d d) (keys_are_met S d) (keys_are_met S d) (both_hold _ _ apart fit) refl) c.keys_are_apart.ensures
+    subst (λ m. IfOk c.keys_are_apart.result (λ b. b ≡ m)) (then_holds (no_two same_object d && all_fit S d d) (keys_are_met S d) (keys_are_met S d) (and_true _ _ apart fit) refl) c.keys_are_apart.ensures

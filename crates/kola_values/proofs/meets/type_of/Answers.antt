@@ -1,4 +1,4 @@
-use Rattle.std.proofs.Common.{◌∙◌, map, refl, rules}
+use Rattle.std.proofs.Common.{map, refl, rules}
 use Rattle.std.specs.Option.{option_copied}
 use Rattle.kola_values.specs.Views.{type_tree, type_entry}
 use Rattle.kola_values.proofs.MeetingLoops.{entry_found}

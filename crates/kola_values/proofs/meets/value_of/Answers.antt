@@ -1,4 +1,4 @@
-use Rattle.std.proofs.Common.{◌∙◌, rules}
+use Rattle.std.proofs.Common.{rules}
 use Rattle.std.specs.Option.{option_copied}
 use Rattle.kola_values.specs.Views.{value_tree}
 use Rattle.kola_values.proofs.MeetingLoops.{entry_found}

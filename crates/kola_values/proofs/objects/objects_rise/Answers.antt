@@ -1,12 +1,8 @@
-use Rattle.std.proofs.Common.{◌≡◌, Bool, true, ◌∙◌, map, ap, rules, subst}
-use Rattle.std.specs.Bool.{OnTrue}
-use Rattle.std.specs.List.{IsAllAdjacentAnswer}
+use Rattle.std.proofs.Common.{rules}
 use Rattle.std.specs.Ordering.{is_lt}
 use Rattle.std.proofs.lemmas.Fn.{always_returns_same}
 use Rattle.kola_values.specs.Values.{VObj}
 use Rattle.kola_values.specs.Order.{cmp}
-use Rattle.kola_values.specs.Sets.{Rising}
-use Rattle.kola_values.specs.ObjectViews.{object_tree}
 use Rattle.kola_values.specs.declared.object.ObjectDef.{ObjectDef}
 use Rattle.kola_values.proofs.Sorting.{objects_told}
 use Rattle.kola_values.proofs.objects.objects_rise.Goals as goal

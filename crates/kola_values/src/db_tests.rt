@@ -1,5 +1,7 @@
 //! Databases made with ample memory, and their look-ups.
-use crate::{ClassDef, Db, Fields, Keys, ObjectDef, Schema, Set, Ty, Value, ValueFields, classes_ok};
+use crate::{
+    ClassDef, Db, Fields, Keys, ObjectDef, Schema, Set, Ty, Value, ValueFields, classes_ok,
+};
 use kola_core::{Memory, Name};
 use std::alloc::Global;
 use std::test::Fail;
@@ -79,7 +81,14 @@ fn extents(rt: HostRuntime) -> Result<(), Fail> {
         assert!(rt; false);
         return Ok(());
     };
-    assert!(rt; is_set(alloc, db.extent(&name(alloc, "Vehicles")?), "Vehicle", &[1, 2])?);
+    assert!(rt;
+        is_set(
+            alloc,
+            db.extent(&name(alloc, "Vehicles")?),
+            "Vehicle",
+            &[1, 2]
+        )?
+    );
     assert!(rt; is_set(alloc, db.extent(&name(alloc, "Boats")?), "Boat", &[3])?);
     assert!(rt; is_set(alloc, db.extent(&name(alloc, "Trains")?), "Train", &[])?);
     assert!(rt; db.extent(&name(alloc, "Vehicle")?).is_none());
@@ -93,8 +102,14 @@ fn objects_and_attributes(rt: HostRuntime) -> Result<(), Fail> {
         assert!(rt; false);
         return Ok(());
     };
-    let (vehicle, boat, year) = (name(alloc, "Vehicle")?, name(alloc, "Boat")?, name(alloc, "year")?);
-    assert!(rt; db.has_object(&vehicle, 1) && db.has_object(&vehicle, 2) && db.has_object(&boat, 3));
+    let (vehicle, boat, year) = (
+        name(alloc, "Vehicle")?,
+        name(alloc, "Boat")?,
+        name(alloc, "year")?,
+    );
+    assert!(rt;
+        db.has_object(&vehicle, 1) && db.has_object(&vehicle, 2) && db.has_object(&boat, 3)
+    );
     assert!(rt; !db.has_object(&vehicle, 3) && !db.has_object(&boat, 1));
     assert!(rt; is_int(db.attribute(&vehicle, 1, &year), 1990));
     assert!(rt; is_int(db.attribute(&vehicle, 2, &year), 2001));

@@ -40,6 +40,8 @@ pub use ty::{BoxedTy, Fields, Ty};
 pub use value::{BoxedValue, Set, Value, ValueFields};
 
 #[cfg(test)]
+mod db_tests;
+#[cfg(test)]
 mod meets_tests;
 #[cfg(test)]
 mod schema_tests;

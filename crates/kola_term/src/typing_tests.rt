@@ -1,8 +1,8 @@
 //! The types of terms and their first faults, with ample memory.
 use crate::make::{at, choice, comp, iterate, nest, pair, partial, unnest};
 use crate::{
-    Const, Fun, MetaCtx, Pred, TypeFault, TypeWhy, const_type, out_type,
-    out_type_without_limit, pred_ok, pred_ok_without_limit,
+    Const, Fun, MetaCtx, Pred, TypeFault, TypeWhy, const_type, out_type, out_type_without_limit,
+    pred_ok, pred_ok_without_limit,
 };
 use kola_core::{Memory, Name};
 use kola_values::{Schema, Ty};

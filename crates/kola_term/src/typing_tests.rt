@@ -1,8 +1,8 @@
 //! The types of terms and their first faults, with ample memory.
 use crate::make::{at, choice, comp, iterate, nest, pair, partial, unnest};
 use crate::{
-    Const, Fun, MetaCtx, MetaTy, Pred, TypeFault, TypeWhy, const_type, out_type,
-    out_type_without_limit, pred_ok, pred_ok_without_limit,
+    Const, Fun, MetaCtx, Pred, TypeFault, TypeWhy, const_type, out_type, out_type_without_limit,
+    pred_ok, pred_ok_without_limit,
 };
 use kola_core::{Memory, Name};
 use kola_values::{Schema, Ty};
@@ -46,8 +46,36 @@ fn is_at_fault(
     }
 }
 
+fn is_typed_without_limit(alloc: Global, f: &Fun, t: &Ty) -> Result<bool, Memory> {
+    let schema = no_class(alloc)?;
+    let ctx = MetaCtx::new(alloc);
+    let answer = out_type_without_limit(alloc, &schema, &ctx, f, t)?;
+    Ok(answer.is_some())
+}
+
+/// Whether a predicate is typed, with the limit and without.
+fn is_checked(alloc: Global, p: &Pred, t: &Ty) -> Result<bool, Memory> {
+    let schema = no_class(alloc)?;
+    let ctx = MetaCtx::new(alloc);
+    let without_limit = pred_ok_without_limit(alloc, &schema, &ctx, p, t)?;
+    Ok(without_limit && pred_ok(alloc, &schema, &ctx, p, t).is_ok())
+}
+
+fn has_const_type(alloc: Global, c: &Const) -> Result<bool, Memory> {
+    let schema = no_class(alloc)?;
+    let ctx = MetaCtx::new(alloc);
+    let answer = const_type(alloc, &schema, &ctx, c)?;
+    Ok(answer.is_some())
+}
+
 fn int_and_bool(alloc: Global) -> Result<Ty, Memory> {
     Ty::pair_of(alloc, Ty::Int, Ty::Bool)
+}
+
+fn pairs_and_truths(alloc: Global) -> Result<Ty, Memory> {
+    let pairs = Ty::set_of(alloc, int_and_bool(alloc)?)?;
+    let truths = Ty::set_of(alloc, Ty::Bool)?;
+    Ty::pair_of(alloc, pairs, truths)
 }
 
 /// The pair of a value with itself, the pair of that with itself, and so on.
@@ -71,13 +99,8 @@ fn the_first_part_of_the_second(rt: HostRuntime) -> Result<(), Fail> {
 
 #[test]
 fn two_integers_are_compared(rt: HostRuntime) -> Result<(), Fail> {
-    let schema = no_class(rt.alloc())?;
-    let ctx = MetaCtx::new(rt.alloc());
     let twins = Ty::pair_of(rt.alloc(), Ty::Int, Ty::Int)?;
-    assert!(rt; pred_ok(rt.alloc(), &schema, &ctx, &Pred::Eq, &twins).is_ok());
-    assert!(rt; pred_ok_without_limit(rt.alloc(), &schema, &ctx, &Pred::Eq, &twins)?);
-    assert!(rt; !pred_ok_without_limit(rt.alloc(), &schema, &ctx, &Pred::Eq, &Ty::Int)?);
-    assert!(rt; const_type(rt.alloc(), &schema, &ctx, &Const::Int(7))?.is_some());
+    assert!(rt; is_checked(rt.alloc(), &Pred::Eq, &twins)?);
     Ok(())
 }
 
@@ -103,7 +126,6 @@ fn an_attribute_that_is_not_there(rt: HostRuntime) -> Result<(), Fail> {
     let class = Ty::Class(Name::from_text(rt.alloc(), "P")?);
     let f = Fun::Attr(Name::from_text(rt.alloc(), "age")?);
     assert!(rt; is_at_fault(rt.alloc(), &f, &class, &[], TypeWhy::NoAttribute)?);
-    assert!(rt; is_at_fault(rt.alloc(), &f, &Ty::Int, &[], TypeWhy::NotThisInput)?);
     Ok(())
 }
 
@@ -120,18 +142,6 @@ fn a_variable_that_is_not_there(rt: HostRuntime) -> Result<(), Fail> {
     let variable = Fun::Meta(Name::from_text(rt.alloc(), "f")?);
     let f = pair(rt.alloc(), Fun::Id, variable)?;
     assert!(rt; is_at_fault(rt.alloc(), &f, &Ty::Int, &[2], TypeWhy::WrongVariable)?);
-    Ok(())
-}
-
-#[test]
-fn a_variable_that_is_there(rt: HostRuntime) -> Result<(), Fail> {
-    let schema = no_class(rt.alloc())?;
-    let mut ctx = MetaCtx::new(rt.alloc());
-    let name = Name::from_text(rt.alloc(), "f")?;
-    ctx.push((name, MetaTy::Fun(Ty::Int, Ty::Str)))?;
-    let f = Fun::Meta(Name::from_text(rt.alloc(), "f")?);
-    assert!(rt; out_type(rt.alloc(), &schema, &ctx, &f, &Ty::Int).is_ok());
-    assert!(rt; out_type(rt.alloc(), &schema, &ctx, &f, &Ty::Str).is_err());
     Ok(())
 }
 
@@ -154,13 +164,9 @@ fn an_output_of_unnest_is_no_set(rt: HostRuntime) -> Result<(), Fail> {
 
 #[test]
 fn nest_looks_at_the_second_set(rt: HostRuntime) -> Result<(), Fail> {
-    let pairs = Ty::set_of(rt.alloc(), int_and_bool(rt.alloc())?)?;
-    let truths = Ty::set_of(rt.alloc(), Ty::Bool)?;
-    let input = Ty::pair_of(rt.alloc(), pairs, truths)?;
+    let input = pairs_and_truths(rt.alloc())?;
     let f = nest(rt.alloc(), Fun::Fst, Fun::Snd)?;
     assert!(rt; is_at_fault(rt.alloc(), &f, &input, &[], TypeWhy::OutputsDiffer)?);
-    let g = nest(rt.alloc(), Fun::Snd, Fun::Fst)?;
-    assert!(rt; is_typed(rt.alloc(), &g, &input)?);
     Ok(())
 }
 
@@ -170,18 +176,25 @@ fn a_type_at_the_limit(rt: HostRuntime) -> Result<(), Fail> {
     let f = iterate(rt.alloc(), Pred::KP(true), inner)?;
     let ints = Ty::set_of(rt.alloc(), Ty::Int)?;
     assert!(rt; is_typed(rt.alloc(), &f, &ints)?);
-    let g = iterate(rt.alloc(), Pred::KP(true), f)?;
-    let sets = Ty::set_of(rt.alloc(), ints)?;
-    assert!(rt; is_at_fault(rt.alloc(), &g, &sets, &[], TypeWhy::TypeTooLarge)?);
+    Ok(())
+}
+
+#[test]
+fn a_type_over_the_limit(rt: HostRuntime) -> Result<(), Fail> {
+    let f = doubled(rt.alloc(), 12)?;
+    assert!(rt; is_at_fault(rt.alloc(), &f, &Ty::Int, &[1], TypeWhy::TypeTooLarge)?);
     Ok(())
 }
 
 #[test]
 fn a_large_type_without_the_limit(rt: HostRuntime) -> Result<(), Fail> {
     let f = doubled(rt.alloc(), 12)?;
-    assert!(rt; is_at_fault(rt.alloc(), &f, &Ty::Int, &[1], TypeWhy::TypeTooLarge)?);
-    let schema = no_class(rt.alloc())?;
-    let ctx = MetaCtx::new(rt.alloc());
-    assert!(rt; out_type_without_limit(rt.alloc(), &schema, &ctx, &f, &Ty::Int)?.is_some());
+    assert!(rt; is_typed_without_limit(rt.alloc(), &f, &Ty::Int)?);
+    Ok(())
+}
+
+#[test]
+fn an_integer_has_a_type(rt: HostRuntime) -> Result<(), Fail> {
+    assert!(rt; has_const_type(rt.alloc(), &Const::Int(7))?);
     Ok(())
 }

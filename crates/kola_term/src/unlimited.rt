@@ -68,7 +68,12 @@ pub fn pred_ok_without_limit(
 
 /// The type of a constant; `None` exactly where it names no extent or no constant variable. It takes time by the number of
 /// nodes of the type and of names in the schema or the context.
-pub fn const_type(alloc: Global, schema: &Schema, ctx: &MetaCtx, c: &Const) -> Result<Option<Ty>, Memory>
+pub fn const_type(
+    alloc: Global,
+    schema: &Schema,
+    ctx: &MetaCtx,
+    c: &Const,
+) -> Result<Option<Ty>, Memory>
     ensures { IfOk result (λ o. option_map type_tree o ≡ const_type schema.now (context_of ctx.now) (const_tree c.now)) }
 {
     let judge = Judge {

@@ -1,5 +1,6 @@
 pub mod Sample
 mod Examples
+mod CountExamples
 mod LiteralLoop
 mod SetConstants
 pub mod Inversions
@@ -11,3 +12,4 @@ pub mod Paths
 pub mod Kept
 pub mod Faulty
 pub mod Unique
+pub mod Numbers

@@ -7,3 +7,5 @@ pub mod Places
 pub mod Faults
 pub mod Agreement
 pub mod TermView
+pub mod Counts
+pub mod Parts

@@ -2,14 +2,18 @@
 #![tactic(auto)]
 
 mod constant;
+mod count;
 mod laws;
 pub mod make;
+mod part;
 mod term;
 
 pub use constant::{Const, LitSet};
+pub use count::{depth, nodes};
 pub use laws::{
     a_term_is_fine_or_has_one_first_fault, equal_parts_keep_the_value,
     parts_of_one_type_keep_the_type, typed_functions_keep_types,
     typed_terms_are_typed_at_each_place,
 };
+pub use part::{SubTerm, sub_at};
 pub use term::{Fun, Pred, Term};

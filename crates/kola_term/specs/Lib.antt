@@ -9,3 +9,5 @@ pub mod Agreement
 pub mod TermView
 pub mod Counts
 pub mod Parts
+pub mod PlaceAnswers
+pub mod Replacing

@@ -6,6 +6,7 @@ mod count;
 mod laws;
 pub mod make;
 mod part;
+mod place;
 mod term;
 
 pub use constant::{Const, LitSet};
@@ -16,4 +17,5 @@ pub use laws::{
     typed_terms_are_typed_at_each_place,
 };
 pub use part::{SubTerm, sub_at};
+pub use place::PlaceFault;
 pub use term::{Fun, Pred, Term};

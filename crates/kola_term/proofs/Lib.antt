@@ -12,4 +12,7 @@ pub mod Paths
 pub mod Kept
 pub mod Faulty
 pub mod Unique
+mod AlgebraExamples
 pub mod Numbers
+pub mod Replaced
+pub mod InputPlaces

@@ -7,7 +7,9 @@ pub mod Places
 pub mod Faults
 pub mod Agreement
 pub mod TermView
+pub mod ContextView
 pub mod Counts
 pub mod Parts
 pub mod PlaceAnswers
 pub mod Replacing
+pub mod Inputs

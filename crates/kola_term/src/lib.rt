@@ -5,9 +5,11 @@ mod constant;
 mod count;
 mod laws;
 pub mod make;
+mod meta;
 mod part;
 mod place;
 mod term;
+mod unlimited;
 
 pub use constant::{Const, LitSet};
 pub use count::{depth, nodes};
@@ -16,6 +18,8 @@ pub use laws::{
     parts_of_one_type_keep_the_type, typed_functions_keep_types,
     typed_terms_are_typed_at_each_place,
 };
+pub use meta::{MetaCtx, MetaTy};
 pub use part::{SubTerm, sub_at};
 pub use place::PlaceFault;
 pub use term::{Fun, Pred, Term};
+pub use unlimited::{const_type, out_type_without_limit, pred_ok_without_limit};

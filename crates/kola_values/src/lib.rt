@@ -4,6 +4,7 @@
 mod copies;
 mod encoding;
 mod laws;
+mod object;
 mod order;
 mod schema;
 mod schema_laws;
@@ -17,6 +18,7 @@ pub use encoding::{
     encoding_keeps_order,
 };
 pub use laws::{equal_types_are_the_same, values_are_totally_ordered};
+pub use object::ObjectDef;
 pub use order::cmp_values;
 pub use schema::{ClassDef, Keys, Schema, classes_ok};
 pub use schema_laws::tests_of_names_are_exact;

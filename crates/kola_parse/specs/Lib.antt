@@ -1,0 +1,6 @@
+pub mod Reader
+pub mod Faults
+pub mod Texts
+pub mod Reading
+pub mod Moves
+pub mod Given

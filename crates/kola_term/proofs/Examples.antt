@@ -1,6 +1,6 @@
 -- The value and the visits of terms, computed: what the definitions say of queries over the sample database.
 use Rattle.std.proofs.Common.{◌≡◌, ℕ, pos, [], ◌∷◌, true, false, refl, codes}
-use Rattle.kola_values.specs.Values.{ValueTree, VUnit, VInt, VBool, VObj, VPair, VSet, of_items}
+use Rattle.kola_values.specs.Values.{ValueTree, VUnit, VInt, VBool, VStr, VObj, VPair, VSet, of_items}
 use Rattle.kola_values.specs.Order.{same}
 use Rattle.kola_values.specs.Sets.{any, all, set_of}
 use Rattle.kola_term.specs.Terms.{CInt, CBool, CSet, CExtent, FunTree, FId, FFst, FSnd, FFlat, FMinus, FAttr, FComp, FPair, FK, FIf, FIter, FJoin, FNest, PEq, PLt, PMember, PAt, PKP, PEx, PFa}
@@ -28,7 +28,7 @@ owner id = VObj (codes "Person") id
 
 -- (iter((lt @ <snd, K(n)>), snd) o <id, K({1, 2, 3})>)
 abbrev pub below : ℕ → FunTree
-below n = FComp (FIter (PAt PLt (FPair FSnd (FK (CInt (pos n))))) FSnd) (FPair FId (FK (CSet (VInt (pos 3) ∷ VInt (pos 1) ∷ VInt (pos 2) ∷ []))))
+below n = FComp (FIter (PAt PLt (FPair FSnd (FK (CInt (pos n))))) FSnd) (FPair FId (FK (CSet (VInt (pos 1) ∷ VInt (pos 2) ∷ VInt (pos 3) ∷ []))))
 
 below_three : sample_value (below 3) ≡ VSet (of_items (VInt (pos 1) ∷ VInt (pos 2) ∷ []))
 unfolding set_of
@@ -133,3 +133,16 @@ first_decides = refl
 each_is_looked_at : pred_visits [] [] (PFa (PAt PEq (FPair FFst FSnd))) (VPair (VInt (pos 1)) (VSet (of_items (VInt (pos 1) ∷ VInt (pos 2) ∷ [])))) ≡ 2
 unfolding same
 each_is_looked_at = refl
+
+-- (iter(KP(true), ((fst o snd) o <(.first o snd), <(.ssn o snd), (.last o snd)>>)) o <id, K(Persons)>): a field of a struct of three
+abbrev pub numbers : FunTree
+numbers =
+    FComp (FIter (PKP true) (FComp (FComp FFst FSnd) (FPair (FComp (FAttr (codes "first")) FSnd) (FPair (FComp (FAttr (codes "ssn")) FSnd) (FComp (FAttr (codes "last")) FSnd))))) (FPair FId persons)
+
+numbers_value : sample_value numbers ≡ VSet (of_items (VStr (codes "a") ∷ VStr (codes "b") ∷ []))
+unfolding set_of same any
+numbers_value = refl
+
+numbers_visits : sample_visits numbers ≡ 2
+unfolding set_of same any
+numbers_visits = refl

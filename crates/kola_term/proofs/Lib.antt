@@ -16,3 +16,5 @@ mod AlgebraExamples
 pub mod Numbers
 pub mod Replaced
 pub mod InputPlaces
+mod TypeExamples
+mod FaultExamples

@@ -3,6 +3,7 @@
 
 mod constant;
 mod count;
+mod input;
 mod laws;
 pub mod make;
 mod meta;
@@ -13,6 +14,7 @@ mod unlimited;
 
 pub use constant::{Const, LitSet};
 pub use count::{depth, nodes};
+pub use input::input_at;
 pub use laws::{
     a_term_is_fine_or_has_one_first_fault, equal_parts_keep_the_value,
     parts_of_one_type_keep_the_type, typed_functions_keep_types,
@@ -20,6 +22,6 @@ pub use laws::{
 };
 pub use meta::{MetaCtx, MetaTy};
 pub use part::{SubTerm, sub_at};
-pub use place::PlaceFault;
+pub use place::{PlaceFault, replace_at};
 pub use term::{Fun, Pred, Term};
 pub use unlimited::{const_type, out_type_without_limit, pred_ok_without_limit};

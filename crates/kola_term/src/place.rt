@@ -240,3 +240,164 @@ fn only_const(c: &Const, n: u8, part: Term) -> Result<Const, PlaceFault>
         _ => Err(PlaceFault::NoSuchPath),
     }
 }
+
+/// A function with one child exchanged; the other children are copied.
+fn with_fun_child(alloc: Global, f: &Fun, n: u8, part: Term) -> Result<Fun, PlaceFault>
+    ensures { IsAnswer (λ r. Some (TermF (fun_tree r))) result
+        (rebuilt (TermF (fun_tree f.now)) (changed 1 n (term_tree part) (children (TermF (fun_tree f.now))))) }
+{
+    match f {
+        Fun::Comp(f, g) => {
+            let (f, g) = two_funs(f, g, n, part)?;
+            Ok(make::comp(alloc, f, g)?)
+        }
+        Fun::Pair(f, g) => {
+            let (f, g) = two_funs(f, g, n, part)?;
+            Ok(make::pair(alloc, f, g)?)
+        }
+        Fun::Times(f, g) => {
+            let (f, g) = two_funs(f, g, n, part)?;
+            Ok(make::times(alloc, f, g)?)
+        }
+        Fun::Nest(f, g) => {
+            let (f, g) = two_funs(f, g, n, part)?;
+            Ok(make::nest(alloc, f, g)?)
+        }
+        Fun::Unnest(f, g) => {
+            let (f, g) = two_funs(f, g, n, part)?;
+            Ok(make::unnest(alloc, f, g)?)
+        }
+        Fun::K(c) => {
+            let c = only_const(c, n, part)?;
+            Ok(Fun::K(c))
+        }
+        Fun::C(f, c) => {
+            let (f, c) = fun_and_const(f, c, n, part)?;
+            Ok(make::partial(alloc, f, c)?)
+        }
+        Fun::If(p, f, g) => {
+            let (p, f, g) = pred_and_two_funs(p, f, g, n, part)?;
+            Ok(make::choice(alloc, p, f, g)?)
+        }
+        Fun::Iterate(p, f) => {
+            let (p, f) = pred_and_fun(p, f, n, part)?;
+            Ok(make::iterate(alloc, p, f)?)
+        }
+        Fun::Iter(p, f) => {
+            let (p, f) = pred_and_fun(p, f, n, part)?;
+            Ok(make::iter(alloc, p, f)?)
+        }
+        Fun::Join(p, f) => {
+            let (p, f) = pred_and_fun(p, f, n, part)?;
+            Ok(make::join(alloc, p, f)?)
+        }
+        _ => Err(PlaceFault::NoSuchPath),
+    }
+}
+
+/// A predicate with one child exchanged; the other children are copied.
+fn with_pred_child(alloc: Global, p: &Pred, n: u8, part: Term) -> Result<Pred, PlaceFault>
+    ensures { IsAnswer (λ r. Some (TermP (pred_tree r))) result
+        (rebuilt (TermP (pred_tree p.now)) (changed 1 n (term_tree part) (children (TermP (pred_tree p.now))))) }
+{
+    match p {
+        Pred::At(p, f) => {
+            let (p, f) = pred_and_fun(p, f, n, part)?;
+            Ok(make::at(alloc, p, f)?)
+        }
+        Pred::And(p, q) => {
+            let (p, q) = two_preds(p, q, n, part)?;
+            Ok(make::and(alloc, p, q)?)
+        }
+        Pred::Or(p, q) => {
+            let (p, q) = two_preds(p, q, n, part)?;
+            Ok(make::or(alloc, p, q)?)
+        }
+        Pred::Not(p) => {
+            let p = only_pred(p, n, part)?;
+            Ok(make::not(alloc, p)?)
+        }
+        Pred::Inv(p) => {
+            let p = only_pred(p, n, part)?;
+            Ok(make::inverse(alloc, p)?)
+        }
+        Pred::CP(p, c) => {
+            let (p, c) = pred_and_const(p, c, n, part)?;
+            Ok(make::partial_pred(alloc, p, c)?)
+        }
+        Pred::Ex(p) => {
+            let p = only_pred(p, n, part)?;
+            Ok(make::some(alloc, p)?)
+        }
+        Pred::Fa(p) => {
+            let p = only_pred(p, n, part)?;
+            Ok(make::each(alloc, p)?)
+        }
+        _ => Err(PlaceFault::NoSuchPath),
+    }
+}
+
+/// A part with one child exchanged; the other children are copied.
+fn with_child(alloc: Global, t: SubTerm, n: u8, part: Term) -> Result<Term, PlaceFault>
+    ensures { IsAnswer (λ r. Some (term_tree r)) result
+        (rebuilt (sub_tree t.entry) (changed 1 n (term_tree part) (children (sub_tree t.entry)))) }
+{
+    match t {
+        SubTerm::F(f) => {
+            let f = with_fun_child(alloc, f, n, part)?;
+            Ok(Term::F(f))
+        }
+        SubTerm::P(p) => {
+            let p = with_pred_child(alloc, p, n, part)?;
+            Ok(Term::P(p))
+        }
+        SubTerm::C(_) => Err(PlaceFault::NoSuchPath),
+    }
+}
+
+/// A copy of the new part, where it has the kind of the old one.
+fn whole(t: SubTerm, new: SubTerm) -> Result<Term, PlaceFault>
+    ensures { IsPut (sub_tree t.entry) [] (sub_tree new.entry) result }
+{
+    match (t, new) {
+        (SubTerm::F(_), SubTerm::F(f)) => {
+            let f = f.copy()?;
+            Ok(Term::F(f))
+        }
+        (SubTerm::P(_), SubTerm::P(p)) => {
+            let p = p.copy()?;
+            Ok(Term::P(p))
+        }
+        (SubTerm::C(_), SubTerm::C(c)) => {
+            let c = c.copy()?;
+            Ok(Term::C(c))
+        }
+        _ => Err(PlaceFault::WrongKind),
+    }
+}
+
+/// A part with its own part at a path exchanged.
+fn put_in(alloc: Global, t: SubTerm, path: &[u8], new: SubTerm) -> Result<Term, PlaceFault>
+    ensures { IsPut (sub_tree t.entry) path.now (sub_tree new.entry) result }
+{
+    let Some((n, rest)) = path.split_first() else {
+        return whole(t, new);
+    };
+    let Some(child) = t.child(*n) else {
+        return Err(PlaceFault::NoSuchPath);
+    };
+    let part = put_in(alloc, child, rest, new)?;
+    with_child(alloc, t, *n, part)
+}
+
+/// A term with its part at a path replaced by a new one of the same kind. `NoSuchPath` comes exactly where the term has no
+/// such path, `WrongKind` exactly where the part there has another kind than the new one, the whole term at the empty path.
+pub fn replace_at(alloc: Global, t: &Term, path: &Path, new: &Term) -> Result<Term, PlaceFault>
+    ensures replaced { IfOk result (λ b. put_in (term_tree t.now) path.now (term_tree new.now) ≡ Some (term_tree b)) }
+    ensures no_such_path { UnlessMemory result ((result ≡ Err PlaceFault.NoSuchPath)
+        ↔ (sub_at (term_tree t.now) path.now ≡ None)) }
+    ensures wrong_kind { UnlessMemory result ((result ≡ Err PlaceFault.WrongKind)
+        ↔ OtherKind (sub_at (term_tree t.now) path.now) (term_tree new.now)) }
+{
+    put_in(alloc, t.as_part(), path.as_slice(), new.as_part())
+}

@@ -1,5 +1,5 @@
 -- The input type of a child by tests of its number is that of the definition, and what it says that a place has an input type.
-use Rattle.std.proofs.Common.{◌≡◌, ℕ, zero, suc, ◌==◌, if◌then◌else◌, Option, Some, None, Ok, Err, Result, List, [], ◌∷◌, refl, sym, ◌∙◌, ap, subst, option_and_then, option_map, arith}
+use Rattle.std.proofs.Common.{◌≡◌, ℕ, zero, suc, ◌==◌, if◌then◌else◌, Option, Some, None, Ok, Err, Result, List, [], ◌∷◌, length, refl, sym, ◌∙◌, ap, subst, option_and_then, option_map, arith}
 use Rattle.std.specs.Prelude.{◌↔◌, IfOk}
 use Rattle.kola_values.specs.Types.{TypeTree, TPair}
 use Rattle.kola_values.specs.Views.{type_tree}
@@ -83,8 +83,9 @@ child_has_input S x t n u c h i e =
     let k : Some b.0 ≡ None = sym b.1 ∙ child_input_is S x t n u c i ∙ e in
     cc
 
-pub input_end : (S : Classes) (x : Context) (t : TermTree) (u : TypeTree) (q : List ℕ) (result : Result Ty PlaceFault) → q ≡ [] → IsAnswer type_tree result (at_node t u) → IsInput S x t u q result
-input_end S x t u q result e h = subst (λ p. IsInput S x t u p result) (sym e) (ends t result h)
+pub input_end : (S : Classes) (x : Context) (t : TermTree) (u : TypeTree) (q : List ℕ) (result : Result Ty PlaceFault) → length q ≡ 0 → IsAnswer type_tree result (at_node t u) → IsInput S x t u q result
+input_end S x t u (n ∷ q) result e h = absurd (omega arith)
+input_end S x t u [] result e h = ends t result h
   where
     fun_ends : (f : TermTree) → (IsConstant (Some f) → ⊥) → at_node f u ≡ Ok u → (r : Result Ty PlaceFault) → IsAnswer type_tree r (at_node f u) → IsInput S x f u [] r
     fun_ends f k i (Ok w) j = let d : u ≡ type_tree w = cc in record { part = f; is = refl; kind = k; input = ap Some d }

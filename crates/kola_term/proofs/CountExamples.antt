@@ -1,6 +1,6 @@
 -- Nodes and depth, computed.
-use Rattle.std.proofs.Common.{◌≡◌, pos, [], ◌∷◌, true, refl, codes}
-use Rattle.kola_term.specs.Terms.{CInt, CBool, FunTree, FId, FSnd, FK, FC, FIf, PNot, PEq, PKP, PCP, TermF, TermP, TermC}
+use Rattle.std.proofs.Common.{◌≡◌, pos, true, refl}
+use Rattle.kola_term.specs.Terms.{CInt, CBool, FId, FSnd, FC, FIf, PNot, PEq, PKP, PCP, TermF, TermP, TermC}
 use Rattle.kola_term.specs.Counts.{nodes, depth}
 use Rattle.kola_term.proofs.Examples.{below, persons, same_persons}
 

@@ -1,9 +1,7 @@
 -- First faults of typing: one for each cause, and terms with two faults of which the order of typing tells the first.
-use Rattle.std.proofs.Common.{◌≡◌, ℕ, zero, suc, pos, List, [], ◌∷◌, true, refl, codes}
-use Rattle.kola_values.specs.Types.{TypeTree, TInt, TBool, TStr, TUnit, TClass, TSet, TPair}
-use Rattle.kola_values.specs.Databases.{Class}
-use Rattle.kola_term.specs.Terms.{CInt, CExtent, CMeta, FunTree, FId, FFst, FSnd, FFlat, FAttr, FComp, FPair, FTimes, FK, FC, FIf, FIterate, FIter, FJoin, FNest, FUnnest, FMeta, PredTree, PEq, PAt, PAnd, POr, PNot, PInv, PKP, PCP, PEx, PMeta, TermTree, TermF, TermP}
-use Rattle.kola_term.specs.Typing.{MFun, MPred}
+use Rattle.std.proofs.Common.{ℕ, zero, suc, pos, List, [], ◌∷◌, true, codes}
+use Rattle.kola_values.specs.Types.{TypeTree, TInt, TBool, TUnit, TClass, TSet, TPair}
+use Rattle.kola_term.specs.Terms.{CInt, CExtent, CMeta, FunTree, FId, FFst, FSnd, FAttr, FComp, FPair, FK, FC, FIf, FIter, FNest, FUnnest, PredTree, PEq, PAt, PAnd, PNot, PKP, PCP, PEx, PMeta, TermTree, TermF, TermP}
 use Rattle.kola_term.specs.Faults.{TypeWhy, NotThisInput, OutputsDiffer, NoAttribute, NoExtent, WrongVariable, TypeTooLarge, FaultAt, small}
 use Rattle.kola_term.proofs.Unique.{judged_says}
 use Rattle.kola_term.proofs.Sample.{sample_schema}

@@ -15,7 +15,7 @@ use Rattle.kola_term.specs.declared.place.PlaceFault.{PlaceFault}
 use Rattle.kola_term.specs.declared.place.PlaceFault.TheVariants as fault
 use Rattle.kola_term.proofs.Introductions.{bind}
 use Rattle.kola_term.proofs.Inversions.{some_same}
-use Rattle.kola_term.proofs.Numbers.{test_apart, test_same}
+use Rattle.kola_term.proofs.Numbers.{test_apart}
 use Rattle.kola_term.proofs.Paths.{parts_typed, nth_both}
 
 one : {A B : Type 0} (n : ℕ) (a : A) (o : Option B) (c : A) → nth n (a ∷ []) ≡ Some c → flatten (nth n (o ∷ [])) ≡ o
@@ -92,6 +92,7 @@ input_end S x t u [] result e h = ends t result h
     fun_ends f k i (Err fault.NoSuchPath) j = absurd (cc)
     fun_ends f k i (Err fault.WrongKind) j = absurd (cc)
     fun_ends f k i (Err fault.Memory) j = tt
+
     ends : (z : TermTree) (r : Result Ty PlaceFault) → IsAnswer type_tree r (at_node z u) → IsInput S x z u [] r
     ends (TermF f) r j = fun_ends (TermF f) (λ k. k) refl r j
     ends (TermP p) r j = fun_ends (TermP p) (λ k. k) refl r j

@@ -1,5 +1,5 @@
 -- What it says that a node's child was exchanged, and that a part was put at a path.
-use Rattle.std.proofs.Common.{◌≡◌, ℕ, zero, suc, ◌+◌, ◌≤◌, ◌==◌, if◌then◌else◌, Option, Some, None, Result, Ok, Err, List, [], ◌∷◌, refl, sym, ◌∙◌, ap, subst, option_and_then, arith}
+use Rattle.std.proofs.Common.{◌≡◌, ℕ, zero, suc, ◌+◌, ◌≤◌, Option, Some, None, Result, Ok, Err, List, [], ◌∷◌, refl, sym, ◌∙◌, ap, subst, option_and_then, arith}
 use Rattle.std.specs.Prelude.{◌↔◌, IfOk}
 use Rattle.kola_term.specs.Terms.{ConstTree, FunTree, PredTree, TermTree, TermF, TermP, TermC}
 use Rattle.kola_term.specs.Places.{children, rebuild, nth, with_nth, sub_at, put_in}
@@ -11,7 +11,6 @@ use Rattle.kola_term.specs.declared.term.Term.{Term}
 use Rattle.kola_term.specs.declared.place.PlaceFault.{PlaceFault}
 use Rattle.kola_term.specs.declared.place.PlaceFault.TheVariants as fault
 use Rattle.kola_term.proofs.Introductions.{bind}
-use Rattle.kola_term.proofs.Inversions.{some_same}
 use Rattle.kola_term.proofs.Kept.{same_kind_built}
 use Rattle.kola_term.proofs.Numbers.{test_apart, test_same}
 

@@ -2,7 +2,7 @@
 use Rattle.std.proofs.Common.{◌≡◌, Option, Some, None, pos, [], ◌∷◌, true, false, refl, codes}
 use Rattle.kola_values.specs.Types.{TypeTree, TInt, TStr, TBool, TUnit, TClass, TSet, TPair}
 use Rattle.kola_values.specs.Values.{VInt, VBool}
-use Rattle.kola_term.specs.Terms.{CInt, CSet, CExtent, CMeta, FunTree, FId, FFst, FSnd, FAttr, FComp, FK, FC, FIterate, FUnnest, FMeta, PEq, PLt, PMember, PInv, PKP, PCP, PMeta, TermF, TermP, TermC}
+use Rattle.kola_term.specs.Terms.{CInt, CSet, CMeta, FunTree, FFst, FSnd, FAttr, FComp, FK, FC, FUnnest, FMeta, PLt, PMember, PInv, PCP, PMeta, TermF, TermC}
 use Rattle.kola_term.specs.Typing.{MFun, MPred, MConst, Context, out, is_typed}
 use Rattle.kola_term.specs.Places.{sub_at, place}
 use Rattle.kola_term.proofs.Sample.{sample_schema}

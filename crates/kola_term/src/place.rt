@@ -198,7 +198,13 @@ fn behind(p: &Pred, f: &Fun, g: Fun) -> Result<(Pred, Fun, Fun), Memory>
 }
 
 /// A predicate and two functions, the one with the number exchanged and the others copied.
-fn pred_and_two_funs(p: &Pred, f: &Fun, g: &Fun, n: u8, part: Term) -> Result<(Pred, Fun, Fun), PlaceFault>
+fn pred_and_two_funs(
+    p: &Pred,
+    f: &Fun,
+    g: &Fun,
+    n: u8,
+    part: Term,
+) -> Result<(Pred, Fun, Fun), PlaceFault>
     ensures { IsAnswer (λ r. TermP (pred_tree r.0) ∷ TermF (fun_tree r.1) ∷ TermF (fun_tree r.2) ∷ []) result
         (changed 1 n (term_tree part) (TermP (pred_tree p.now) ∷ TermF (fun_tree f.now) ∷ TermF (fun_tree g.now) ∷ [])) }
 {

@@ -269,7 +269,7 @@ with_nth_serves S x n (o ∷ os) [] c e w h i j k = absurd h
 some_kind : (t z b : TermTree) → SameKind t z → Some z ≡ Some b → SameKind t b
 some_kind t z b h e = subst (SameKind t) (some_same z b e) h
 
-same_kind_built : (t : TermTree) (cs : List TermTree) (b : TermTree) → rebuild t cs ≡ Some b → SameKind t b
+pub same_kind_built : (t : TermTree) (cs : List TermTree) (b : TermTree) → rebuild t cs ≡ Some b → SameKind t b
 same_kind_built (TermF (FComp y1 y2)) (TermF f ∷ TermF g ∷ []) b e = some_kind (TermF (FComp y1 y2)) (TermF (FComp f g)) b tt e
 same_kind_built (TermF (FPair y1 y2)) (TermF f ∷ TermF g ∷ []) b e = some_kind (TermF (FPair y1 y2)) (TermF (FPair f g)) b tt e
 same_kind_built (TermF (FTimes y1 y2)) (TermF f ∷ TermF g ∷ []) b e = some_kind (TermF (FTimes y1 y2)) (TermF (FTimes f g)) b tt e

@@ -1,5 +1,6 @@
 pub mod Sample
 mod Examples
+mod CountExamples
 mod LiteralLoop
 mod SetConstants
 mod Sizes
@@ -16,3 +17,8 @@ mod AlgebraExamples
 mod Weights
 mod WithoutLimit
 mod TypeAnswers
+pub mod Numbers
+pub mod Replaced
+pub mod InputPlaces
+mod TypeExamples
+mod FaultExamples

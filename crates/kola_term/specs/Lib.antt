@@ -10,3 +10,8 @@ pub mod Agreement
 pub mod TermView
 pub mod ContextView
 pub mod TypingAnswers
+pub mod Counts
+pub mod Parts
+pub mod PlaceAnswers
+pub mod Replacing
+pub mod Inputs

@@ -1,5 +1,5 @@
 -- From the answers of the walk to what they say of the term.
-use Rattle.std.proofs.Common.{◌≡◌, Bool, true, false, Option, Some, None, Result, Ok, Err, sym, ap, ◌∙◌, subst}
+use Rattle.std.proofs.Common.{true, Result, Ok, Err, subst}
 use Rattle.kola_values.specs.Types.{TypeTree, TBool}
 use Rattle.kola_values.specs.Databases.{Classes}
 use Rattle.kola_values.specs.Views.{type_tree}

@@ -1,14 +1,14 @@
 -- The typing without the limit answers the output type, and whether a predicate is typed.
-use Rattle.std.proofs.Common.{◌≡◌, ℕ, Bool, true, false, cond, ◌&&◌, Option, Some, None, refl, sym, ap, ◌∙◌, option_and_then, option_map, List, [], ◌∷◌, Ok, Err}
+use Rattle.std.proofs.Common.{◌≡◌, ℕ, Bool, true, false, cond, ◌&&◌, Option, Some, None, refl, sym, ap, ◌∙◌, option_and_then, option_map, List, Ok, Err}
 use Rattle.kola_values.specs.Types.{TypeTree, TInt, TBool, TClass, TSet, TPair, same_type}
 use Rattle.kola_values.specs.Databases.{Classes, attribute_type, extent_class, look_up}
 use Rattle.kola_core.specs.Integers.{in_64}
 use Rattle.kola_term.specs.Literals.{set_type}
-use Rattle.kola_term.specs.Terms.{ConstTree, CInt, CBool, CStr, CSet, CExtent, CMeta, FunTree, FId, FFst, FSnd, FFlat, FUnion, FIsect, FMinus, FAttr, FComp, FPair, FTimes, FK, FC, FIf, FIterate, FIter, FJoin, FNest, FUnnest, FMeta, PredTree, PEq, PLt, PLe, PMember, PAt, PAnd, POr, PNot, PInv, PKP, PCP, PEx, PFa, PMeta, TermF, TermP}
+use Rattle.kola_term.specs.Terms.{ConstTree, CInt, CBool, CStr, CSet, CExtent, CMeta, FunTree, FId, FFst, FSnd, FFlat, FUnion, FIsect, FMinus, FAttr, FComp, FPair, FTimes, FK, FC, FIf, FIterate, FIter, FJoin, FNest, FUnnest, FMeta, PredTree, PEq, PLt, PLe, PMember, PAt, PAnd, POr, PNot, PInv, PKP, PCP, PEx, PFa, PMeta}
 use Rattle.kola_term.specs.Typing.{MetaTree, MFun, MPred, Context, out, is_typed, const_type, first_type, second_type, member_type, twin_type, iter_type, join_type, the_if, pair_of, one_of, nest_of, when, is_some_type, attr_at, fun_of, pred_of, const_of}
-use Rattle.kola_term.specs.Faults.{TypeWhy, NotThisInput, OutputsDiffer, NoAttribute, NoExtent, WrongVariable, lacks, unless, attr_own, fun_own, pred_own, const_own, own}
+use Rattle.kola_term.specs.Faults.{TypeWhy, NotThisInput, NoAttribute, NoExtent, WrongVariable, lacks, unless, attr_own, fun_own, pred_own}
 use Rattle.kola_term.proofs.Inversions.{same_ty-equal}
-use Rattle.kola_term.specs.Judging.{Checked, under, and_then, kid, refused, sized, given, leaf, no_size, when_same, consting, on_pair, set_out, typing, checking}
+use Rattle.kola_term.specs.Judging.{Checked, under, and_then, kid, sized, given, leaf, no_size, when_same, consting, set_out, typing, checking}
 
 -- the type of an answer, and whether it has one
 abbrev pub type_in : Checked → Option TypeTree

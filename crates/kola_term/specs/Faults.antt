@@ -1,10 +1,10 @@
 -- The first fault of typing a term, as a relation.
-use Rattle.std.specs.Prelude.{ℕ, suc, nat_le, Bool, true, false, cond, List, [], ◌∷◌, ◌++◌, Option, Some, None, option_and_then, Result, Ok, Err, ◌≡◌}
-use Rattle.kola_values.specs.Types.{TypeTree, TBool, TClass, TSet, TPair, same_type, type_nodes}
+use Rattle.std.specs.Prelude.{ℕ, suc, nat_le, Bool, true, false, cond, List, [], ◌∷◌, ◌++◌, Option, Some, None, option_and_then, ◌≡◌}
+use Rattle.kola_values.specs.Types.{TypeTree, TClass, same_type, type_nodes}
 use Rattle.kola_values.specs.Databases.{Classes, attribute_type, extent_class, look_up}
 use Rattle.kola_core.specs.Integers.{in_64}
 use Rattle.kola_term.specs.Literals.{set_type}
-use Rattle.kola_term.specs.Terms.{ConstTree, CInt, CBool, CStr, CSet, CExtent, CMeta, FunTree, FFst, FSnd, FFlat, FUnion, FIsect, FMinus, FAttr, FComp, FPair, FTimes, FK, FC, FIf, FIterate, FIter, FJoin, FNest, FUnnest, FMeta, PredTree, PEq, PLt, PLe, PMember, PAt, PAnd, POr, PNot, PInv, PCP, PEx, PFa, PMeta, TermTree, TermF, TermP, TermC}
+use Rattle.kola_term.specs.Terms.{ConstTree, CInt, CBool, CStr, CSet, CExtent, CMeta, FunTree, FFst, FSnd, FFlat, FUnion, FIsect, FMinus, FAttr, FComp, FTimes, FC, FIf, FIterate, FIter, FJoin, FNest, FUnnest, FMeta, PEq, PLt, PLe, PMember, PAt, PInv, PCP, PEx, PFa, PMeta, TermTree, TermF, TermP, TermC}
 use Rattle.kola_term.specs.Typing.{MetaTree, MFun, MPred, Context, out, is_typed, const_type, first_type, second_type, member_type, twin_type, iter_type, join_type, pair_of, one_of, const_of}
 use Rattle.kola_term.specs.Places.{children, inputs, nth, flatten, sub_at, place}
 

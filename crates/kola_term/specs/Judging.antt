@@ -1,5 +1,5 @@
 -- The typing of a term as the program goes about it, with the limit on sizes or without. That its answers are those of `Fine` and `FaultAt`, or of `out`, is proved.
-use Rattle.std.specs.Prelude.{ℕ, Bool, true, false, cond, List, [], ◌∷◌, Option, Some, None, option_and_then, Result, Ok, Err}
+use Rattle.std.specs.Prelude.{ℕ, Bool, true, false, cond, List, [], ◌∷◌, Option, Some, None, Result, Ok, Err}
 use Rattle.kola_values.specs.Types.{TypeTree, TBool, TSet, TPair, same_type}
 use Rattle.kola_values.specs.Databases.{Classes, look_up}
 use Rattle.kola_term.specs.Terms.{ConstTree, FunTree, FAttr, FComp, FPair, FTimes, FK, FC, FIf, FIterate, FIter, FJoin, FNest, FUnnest, FMeta, PredTree, PAt, PAnd, POr, PNot, PInv, PCP, PEx, PFa, TermTree, TermF, TermP, TermC}

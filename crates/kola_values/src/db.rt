@@ -42,16 +42,26 @@ pub struct Extent {
     members: Set,
 }
 
+// The objects of a class: in the order of values they stand side by side.
+fn run_of<'a>(objects: &'a [ObjectDef], class: &Name) -> &'a [ObjectDef]
+    requires { Rising (object_values (map object_tree objects.now)) }
+    ensures { object_values (map object_tree result.now) ≡ objects_of class.now (map object_tree objects.now) }
+{
+    let start = objects.partition_point(|object| object.class.cmp_bytes(class).is_lt());
+    let from = &objects[start..];
+    let count = from.partition_point(|object| class.is(&object.class));
+    &from[..count]
+}
+
 // The objects of a class as a set.
 fn members_of(alloc: Global, class: &Name, objects: &[ObjectDef]) -> Result<Set, Memory>
     requires { Rising (object_values (map object_tree objects.now)) }
     ensures { IfOk result (λ s. s ≡ objects_of class.now (map object_tree objects.now)) }
 {
+    let run = run_of(objects, class);
     let mut members = Vec::new(alloc);
-    for object in objects {
-        if class.is(&object.class) {
-            members.push(Value::Obj(object.class.copy()?, object.id))?;
-        }
+    for object in run {
+        members.push(Value::Obj(object.class.copy()?, object.id))?;
     }
     Ok(Set::from_rising(members))
 }
@@ -137,8 +147,9 @@ impl Model for Db {
 }
 
 impl Db {
-    /// The database of these objects, which must meet the schema. It sorts them where they stand, and makes the set of each extent by one
-    /// walk over them all.
+    /// The database of these objects, which must meet the schema. It sorts them where they stand. The objects of a class then stand side by
+    /// side: it finds them by halves, and makes the set of the extent by one walk over them alone. Its time goes with the number of objects
+    /// times its logarithm, and the number of classes times that logarithm.
     pub fn make(alloc: Global, schema: &Schema, objects: Vec<ObjectDef>) -> Result<Db, Memory>
         requires { Meets schema.now (map object_tree objects.items) }
         ensures under { IfOk result (λ db. IsUnder schema.now db) }

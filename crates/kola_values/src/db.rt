@@ -1,8 +1,6 @@
 //! Databases: objects that meet a schema, with each extent as a set.
 ghost use Rattle.std.specs.Prelude.{◌≡◌, true, map, slice_get, IfOk, IsPermutation};
-ghost use Rattle.std.specs.List.{find};
 ghost use Rattle.std.specs.Option.{option_map, option_copied};
-ghost use Rattle.std.specs.Str.{bytes_eq};
 ghost use Rattle.kola_values.specs.Values.{VObj};
 ghost use Rattle.kola_values.specs.Order.{cmp};
 ghost use Rattle.kola_values.specs.Sets.{Rising, has};
@@ -14,6 +12,7 @@ ghost use Rattle.kola_values.specs.Views.{value_at};
 ghost use Rattle.kola_values.specs.ObjectViews.{object_tree, object_at};
 ghost use Rattle.kola_values.specs.ExtentViews.{filled};
 
+use crate::entries::entry_named;
 use crate::name_table::NameTable;
 use crate::{ObjectDef, Schema, Set, Value};
 use kola_core::{Memory, Name};
@@ -113,12 +112,6 @@ fn object_in<'a>(objects: &'a [ObjectDef], class: &Name, id: u32) -> Option<&'a 
     }
 }
 
-fn entry_by_name<'a>(entries: &'a [(Name, Value)], name: &Name) -> Option<&'a (Name, Value)>
-    ensures { option_copied result ≡ find (λ e. bytes_eq name.now e.0) entries.now }
-{
-    entries.iter().find(|entry| name.is(&entry.0))
-}
-
 /// A database: objects that meet a schema. Contracts see it as its objects and the names of its extents with their classes. It keeps its
 /// objects in the order of their values, and each extent as a set.
 #[derive(Drop)]
@@ -182,7 +175,7 @@ impl Db {
         ensures { option_map value_at result ≡ attribute_in self.now.objects class.now id a.now }
     {
         let object = object_in(&self.objects, class, id)?;
-        let entry = entry_by_name(object.values.as_slice(), a)?;
+        let entry = entry_named(object.values.as_slice(), a)?;
         Some(&entry.1)
     }
 

@@ -5,6 +5,7 @@ mod copies;
 mod db;
 mod db_laws;
 mod encoding;
+mod entries;
 mod keyed;
 mod laws;
 mod meets;

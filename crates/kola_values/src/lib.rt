@@ -43,6 +43,8 @@ pub use value::{BoxedValue, Set, Value, ValueFields};
 #[cfg(test)]
 mod db_tests;
 #[cfg(test)]
+mod encoding_tests;
+#[cfg(test)]
 mod meets_tests;
 #[cfg(test)]
 mod schema_tests;

@@ -23,6 +23,7 @@ pub mod Schemas
 pub mod Places
 pub mod Reordered
 pub mod Stored
+pub mod Runs
 pub mod NameTests
 mod SchemaExamples
 mod MeetExamples

@@ -5,6 +5,7 @@ mod copies;
 mod db;
 mod db_laws;
 mod encoding;
+mod entries;
 mod keyed;
 mod laws;
 mod meets;
@@ -41,6 +42,8 @@ pub use value::{BoxedValue, Set, Value, ValueFields};
 
 #[cfg(test)]
 mod db_tests;
+#[cfg(test)]
+mod encoding_tests;
 #[cfg(test)]
 mod meets_tests;
 #[cfg(test)]

@@ -4,12 +4,12 @@ ghost use Rattle.std.specs.List.Sorted.{IsSortedBy};
 ghost use Rattle.std.specs.Ordering.{is_lt};
 ghost use Rattle.kola_values.specs.Values.{VObj};
 ghost use Rattle.kola_values.specs.Order.{cmp};
-ghost use Rattle.std.specs.List.{list_any, list_all, find};
-ghost use Rattle.std.specs.Option.{option_map, option_copied};
+ghost use Rattle.std.specs.List.{list_any, list_all};
+ghost use Rattle.std.specs.Option.{option_map};
 ghost use Rattle.std.specs.Str.{bytes_eq};
 ghost use Rattle.kola_values.specs.Sets.{Each};
 ghost use Rattle.kola_values.specs.Databases.{look_up, value_or_unit};
-ghost use Rattle.kola_values.specs.Schemas.{are_distinct, is_listed, names_of, class_named};
+ghost use Rattle.kola_values.specs.Schemas.{is_listed, names_of, class_named};
 ghost use Rattle.kola_values.specs.Meets.{Meets};
 ghost use Rattle.kola_values.specs.MeetsTests.{IsHeld, is_there, no_two, same_object, is_value_of, fits_class, agree_at, clash, all_fit, keys_are_met, meets};
 ghost use Rattle.kola_values.specs.Views.{type_tree, type_entry, value_tree, value_entry, value_at};
@@ -19,34 +19,12 @@ ghost use Rattle.kola_values.specs.Stored.{IsUnder};
 ghost use Rattle.kola_values.specs.declared.meets.ObjectsRefused.TheVariants as refused;
 
 use crate::db::cmp_objects;
+use crate::entries::{entry_named, has_label, labels_are_distinct};
 use crate::keyed::keys_are_apart;
 use crate::objects::{Holds, Listed, Sorted, has_object, is_of_type, objects_rise};
 use crate::{ClassDef, Db, ObjectDef, Schema, Ty, Value};
 use kola_core::{Memory, Name, Names};
 use std::alloc::Global;
-
-fn entry_named<'a, T>(entries: &'a [(Name, T)], name: &Name) -> Option<&'a (Name, T)>
-    ensures { option_copied result ≡ find (λ e. bytes_eq name.now e.0) entries.now }
-{
-    entries.iter().find(|entry| name.is(&entry.0))
-}
-
-fn has_label<T>(entries: &[(Name, T)], label: &Name) -> bool
-    ensures { result ≡ list_any (λ e. bytes_eq label.now e.0) entries.now }
-{
-    entries.iter().any(|entry| label.is(&entry.0))
-}
-
-fn labels_are_distinct(entries: &[(Name, Value)]) -> bool
-    ensures { result ≡ are_distinct (map (λ e. e.0) entries.now) }
-{
-    for i in 0..entries.len() {
-        if has_label(&entries[i + 1..], &entries[i].0) {
-            return false;
-        }
-    }
-    true
-}
 
 fn type_of<'a>(types: &'a [(Name, Ty)], a: &Name) -> Option<&'a Ty>
     ensures { option_map type_at result ≡ look_up a.now (map type_entry types.now) }

@@ -9,6 +9,7 @@ ghost use Rattle.kola_values.specs.Schemas.{is_listed, are_distinct, names_of, c
 ghost use Rattle.kola_values.specs.Views.{type_tree, type_entry, type_entry_at};
 ghost use Rattle.kola_values.specs.SchemaViews.{class_tree, class_at, type_at};
 
+use crate::entries::{has_label, labels_are_distinct};
 use crate::name_table::NameTable;
 use crate::{Fields, Ty};
 use kola_core::{Items, Memory, Name, Names};
@@ -43,12 +44,6 @@ fn has_extent(classes: &[ClassDef], name: &Name) -> bool
     classes.iter().any(|class| name.is(&class.extent))
 }
 
-fn has_attribute(entries: &[(Name, Ty)], name: &Name) -> bool
-    ensures { result ≡ list_any (λ e. bytes_eq name.now e.0) entries.now }
-{
-    entries.iter().any(|entry| name.is(&entry.0))
-}
-
 fn class_names_are_distinct(classes: &[ClassDef]) -> bool
     ensures { result ≡ are_distinct (map (λ c. c.name) classes.now) }
 {
@@ -65,17 +60,6 @@ fn extent_names_are_distinct(classes: &[ClassDef]) -> bool
 {
     for i in 0..classes.len() {
         if has_extent(&classes[i + 1..], &classes[i].extent) {
-            return false;
-        }
-    }
-    true
-}
-
-fn attribute_names_are_distinct(entries: &[(Name, Ty)]) -> bool
-    ensures { result ≡ are_distinct (map (λ e. e.0) entries.now) }
-{
-    for i in 0..entries.len() {
-        if has_attribute(&entries[i + 1..], &entries[i].0) {
             return false;
         }
     }
@@ -104,7 +88,7 @@ fn are_stored_types(classes: &[ClassDef], entries: &[(Name, Ty)]) -> bool
 fn are_attributes(entries: &[(Name, Ty)], names: &[Name]) -> bool
     ensures { result ≡ list_all (λ n. list_any (λ e. bytes_eq n e.0) entries.now) names.now }
 {
-    names.iter().all(|name| has_attribute(entries, name))
+    names.iter().all(|name| has_label(entries, name))
 }
 
 fn is_key(entries: &[(Name, Ty)], key: &Names) -> bool
@@ -123,7 +107,7 @@ fn is_class(classes: &[ClassDef], class: &ClassDef) -> bool
     ensures { result ≡ is_class (class_names (map class_tree classes.now)) (class_tree class.now) }
 {
     let entries = class.attributes.as_slice();
-    attribute_names_are_distinct(entries)
+    labels_are_distinct(entries)
         && are_stored_types(classes, entries)
         && are_keys(entries, class.keys.as_slice())
 }

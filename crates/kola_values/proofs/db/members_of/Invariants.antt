@@ -5,4 +5,4 @@ use Rattle.kola_values.specs.ObjectViews.{object_tree}
 use Rattle.kola_values.proofs.db.members_of.Given as goal
 
 abbrev pub invariant-loop-object : goal.invariant-loop-object
-invariant-loop-object l = map value_tree l.members.items ≡ objects_of l.class (take l.object-index (map object_tree l.objects))
+invariant-loop-object l = map value_tree l.members.items ≡ take l.object-index (objects_of l.class (map object_tree l.objects))

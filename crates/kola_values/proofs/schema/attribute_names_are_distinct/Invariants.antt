@@ -1,8 +1,0 @@
-use Rattle.std.proofs.Common.{◌≡◌, map, drop}
-use Rattle.kola_values.specs.Schemas.{are_distinct}
-use Rattle.kola_core.specs.declared.name.Name.{Name}
-use Rattle.kola_values.specs.declared.ty.Ty.{Ty}
-use Rattle.kola_values.proofs.schema.attribute_names_are_distinct.Given as goal
-
-abbrev pub invariant-loop-i : goal.invariant-loop-i
-invariant-loop-i l = are_distinct (map (λ (e : Name × Ty). e.0) (drop l.i l.entries)) ≡ are_distinct (map (λ (e : Name × Ty). e.0) l.entries)

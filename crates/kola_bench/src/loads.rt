@@ -1,8 +1,11 @@
 //! The loads.
 
-use kola_core::Memory;
-use kola_values::{Set, Value};
-use std::alloc::Global;
+use kola_core::{Memory, Name, Names, Text};
+use kola_term::{Fun, MetaCtx, TypeFault, make, out_type};
+use kola_values::{
+    ClassDef, Db, Fields, Keys, ObjectDef, Schema, Set, Ty, Value, ValueFields, classes_ok,
+};
+use std::alloc::{AllocError, Global};
 
 /// The count that a load of this name and size answers; none where no load has the name.
 pub fn run_load(alloc: Global, name: &str, n: u32) -> Result<Option<usize>, Memory> {
@@ -10,6 +13,8 @@ pub fn run_load(alloc: Global, name: &str, n: u32) -> Result<Option<usize>, Memo
         "set" => mixed_set(alloc, 0, n)?.len(),
         "sets" => two_sets(alloc, n)?,
         "union" => union_of_two(alloc, n)?,
+        "database" => database(alloc, n)?,
+        "typing" => typing(alloc, n)?,
         _ => return Ok(None),
     };
     Ok(Some(count))
@@ -42,4 +47,116 @@ fn union_of_two(alloc: Global, n: u32) -> Result<usize, Memory> {
     let first = mixed_set(alloc, 0, n)?;
     let second = mixed_set(alloc, n / 2, n)?;
     Ok(first.union(&second)?.len())
+}
+
+fn name(alloc: Global, text: &str) -> Result<Name, Memory> {
+    Name::from_text(alloc, text)
+}
+
+fn key(alloc: Global, attributes: &[&str]) -> Result<Names, Memory> {
+    let mut names = Names::new(alloc);
+    for a in attributes {
+        names.push(name(alloc, a)?)?;
+    }
+    Ok(names)
+}
+
+/// A class of parts, with a number and two names, and two keys: the number, and both names.
+fn part(alloc: Global) -> Result<ClassDef, Memory> {
+    let mut attributes = Fields::new(alloc);
+    attributes.push((name(alloc, "number")?, Ty::Int))?;
+    attributes.push((name(alloc, "first")?, Ty::Str))?;
+    attributes.push((name(alloc, "last")?, Ty::Str))?;
+    let next = Ty::set_of(alloc, Ty::Class(name(alloc, "Part")?))?;
+    attributes.push((name(alloc, "next")?, next))?;
+    let mut keys = Keys::new(alloc);
+    keys.push(key(alloc, &["number"])?)?;
+    keys.push(key(alloc, &["first", "last"])?)?;
+    Ok(ClassDef {
+        name: name(alloc, "Part")?,
+        extent: name(alloc, "Parts")?,
+        attributes,
+        keys,
+    })
+}
+
+/// The schema of parts; none where it is no schema.
+fn parts(alloc: Global) -> Result<Option<Schema>, Memory> {
+    let mut classes = Vec::new(alloc);
+    classes.push(part(alloc)?)?;
+    if !classes_ok(classes.as_slice()) {
+        return Ok(None);
+    }
+    let schema = Schema::make(alloc, classes)?;
+    Ok(Some(schema))
+}
+
+fn text(alloc: Global, n: u32) -> Result<Value, Memory> {
+    let text = Text::from_text(alloc, format!(in alloc; "part {n}")?.as_str())?;
+    Ok(Value::Str(text))
+}
+
+/// The part of this id, of n, which names the part before it.
+fn part_of(alloc: Global, id: u32) -> Result<ObjectDef, Memory> {
+    let mut next = Vec::new(alloc);
+    next.push(Value::Obj(name(alloc, "Part")?, id / 2 + 1))?;
+    let mut values = ValueFields::new(alloc);
+    values.push((name(alloc, "number")?, Value::Int(mixed(id))))?;
+    values.push((name(alloc, "first")?, text(alloc, id / 100)?))?;
+    values.push((name(alloc, "last")?, text(alloc, id % 100)?))?;
+    values.push((
+        name(alloc, "next")?,
+        Value::Set(Set::from_members(alloc, next)?),
+    ))?;
+    Ok(ObjectDef {
+        class: name(alloc, "Part")?,
+        id,
+        values,
+    })
+}
+
+/// The objects of a database of n objects with two keys, made in falling order of their ids, where it is accepted; else 0.
+fn database(alloc: Global, n: u32) -> Result<usize, Memory> {
+    let Some(schema) = parts(alloc)? else {
+        return Ok(0);
+    };
+    let mut objects = Vec::new(alloc);
+    for k in 0..n {
+        objects.push(part_of(alloc, n - k)?)?;
+    }
+    let Ok(db) = Db::try_make(alloc, &schema, objects) else {
+        return Ok(0);
+    };
+    let extent = name(alloc, "Parts")?;
+    Ok(db.extent(&extent).map_or(0, |set| set.len()))
+}
+
+/// A function of at most so many nodes: compositions of compositions, down to `<snd, fst>`.
+fn composed(alloc: Global, nodes: u32) -> Result<Fun, Memory> {
+    if nodes < 7 {
+        return make::pair(alloc, Fun::Snd, Fun::Fst);
+    }
+    let rest = nodes - 1;
+    let left = composed(alloc, rest / 2)?;
+    let right = composed(alloc, rest - rest / 2)?;
+    make::comp(alloc, left, right)
+}
+
+/// How often a function of at most n nodes was typed, of a hundred times.
+fn typing(alloc: Global, n: u32) -> Result<usize, Memory> {
+    let Some(schema) = parts(alloc)? else {
+        return Ok(0);
+    };
+    let f = composed(alloc, n)?;
+    let input = Ty::pair_of(alloc, Ty::Int, Ty::Int)?;
+    let ctx = MetaCtx::new(alloc);
+    let mut typed: usize = 0;
+    for _ in 0..100 {
+        match out_type(alloc, &schema, &ctx, &f, &input) {
+            Ok(_) => typed = typed.saturating_add(1),
+            Err(TypeFault::At { .. }) => {}
+            Err(TypeFault::Memory) => return Err(AllocError),
+        }
+    }
+    Ok(typed)
 }

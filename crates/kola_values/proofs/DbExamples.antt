@@ -1,6 +1,6 @@
 -- The look-ups of a stored database at a sample: two persons and a vehicle, which stand in no order.
 use Rattle.std.proofs.Common.{◌≡◌, ℕ, pos, true, false, List, [], ◌∷◌, Some, None, codes, refl}
-use Rattle.kola_values.specs.Values.{ValueTree, VUnit, VInt, VStr, VObj}
+use Rattle.kola_values.specs.Values.{VUnit, VInt, VStr, VObj}
 use Rattle.kola_values.specs.Order.{same}
 use Rattle.kola_values.specs.Sets.{any, has}
 use Rattle.kola_values.specs.Databases.{Object, Objects, objects_of, attribute_of}

@@ -1,7 +1,7 @@
 -- The encoding at values and types that can be computed by hand.
 use Rattle.std.proofs.Common.{◌≡◌, pos, true, [], ◌∷◌, codes, refl}
-use Rattle.kola_values.specs.Values.{ValueTree, VUnit, VInt, VBool, VStr, VPair, VStruct, VSet, VNone, VMore, VEnd, VField, of_items}
-use Rattle.kola_values.specs.Types.{TypeTree, TInt, TStr, TBool, TUnit, TSet, TPair, TStruct, TEnd, TField}
+use Rattle.kola_values.specs.Values.{ValueTree, VInt, VBool, VStr, VPair, VStruct, VSet, VEnd, VField, of_items}
+use Rattle.kola_values.specs.Types.{TypeTree, TInt, TStr, TBool, TSet, TPair, TStruct, TEnd, TField}
 use Rattle.kola_values.specs.Encoding.{enc, enc_type, dec}
 
 abbrev one : ValueTree

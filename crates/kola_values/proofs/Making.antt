@@ -1,5 +1,5 @@
 -- A list of values that is sorted and rid of repeats is the set of its members.
-use Rattle.std.proofs.Common.{◌≡◌, ℕ, zero, suc, ◌+◌, ◌<◌, length, get_or, slice_get, Option, Some, None, true≢false, Result, Ok, Err, is_ok, ⊎_elim, Bool, true, false, cond, ◌||◌, ltb, List, [], ◌∷◌, map, sym, ◌∙◌, ap, refl, arith, add-one}
+use Rattle.std.proofs.Common.{◌≡◌, ℕ, zero, suc, ◌+◌, ◌<◌, length, get_or, slice_get, Some, None, true≢false, Result, Ok, Err, is_ok, ⊎_elim, Bool, true, false, cond, ◌||◌, ltb, List, [], ◌∷◌, map, sym, ◌∙◌, ap, refl, arith, add-one}
 use mathlib.Core.Bool.{or_self_left, or-true}
 use Rattle.std.specs.List.{sum_by, dedup, dedup_from, find}
 use Rattle.std.specs.List.{HoldsAt}

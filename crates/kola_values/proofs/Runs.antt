@@ -1,5 +1,5 @@
 -- The entries that answer `Equal` in a list where the answers rise stand side by side.
-use Rattle.std.proofs.Common.{◌≡◌, ℕ, zero, suc, ◌+◌, ◌-◌, ◌<◌, ◌≤◌, Bool, true, false, true≢false, cond, List, [], ◌∷◌, length, get_or, map, filter, take, drop, refl, sym, ap, ◌∙◌, subst, arith, add-one}
+use Rattle.std.proofs.Common.{◌≡◌, ℕ, zero, suc, ◌+◌, ◌<◌, ◌≤◌, Bool, true, false, true≢false, cond, List, [], ◌∷◌, length, get_or, map, filter, take, drop, refl, sym, ap, ◌∙◌, subst, arith, add-one}
 use Rattle.std.specs.declared.cmp.Ordering.{Ordering}
 use Rattle.std.specs.declared.cmp.Ordering.TheVariants.{Less, Equal, Greater}
 use Rattle.std.specs.Ordering.{is_lt, is_eq, ordering_index, ordering_then, ordering_reverse, nat_cmp}
@@ -9,10 +9,10 @@ use Rattle.std.proofs.lemmas.Cmp.{nat_list_cmp_total}
 use Rattle.std.proofs.lemmas.Map.Text.{is_eq-slice_cmp}
 use Rattle.std.proofs.lemmas.List.{get_or-drop, length-drop}
 use Rattle.std.proofs.lemmas.List.Sorted.{searchable_from_sorted}
-use Rattle.kola_values.specs.Values.{ValueTree, VObj}
+use Rattle.kola_values.specs.Values.{VObj}
 use Rattle.kola_values.specs.Order.{cmp, name_cmp}
 use Rattle.kola_values.specs.Sets.{Rising}
-use Rattle.kola_values.specs.Databases.{Object, Objects, objects_of}
+use Rattle.kola_values.specs.Databases.{Object, objects_of}
 use Rattle.kola_values.specs.Meets.{object_values}
 use Rattle.kola_values.specs.ObjectViews.{object_tree}
 use Rattle.kola_values.specs.declared.object.ObjectDef.{ObjectDef}

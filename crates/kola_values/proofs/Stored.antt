@@ -1,6 +1,5 @@
 -- What the look-ups of a stored database compute.
 use Rattle.std.proofs.Common.{◌≡◌, ℕ, ◌+◌, ◌<◌, Bool, true, false, cond, ◌&&◌, ◌||◌, List, [], ◌∷◌, ◌++◌, Option, Some, None, is_some, length, get_or, map, filter, take, position, slice_get, option_map, option_and_then, refl, sym, ap, ◌∙◌, subst, IsPermutation}
-use mathlib.Core.Bool.{or-true}
 use Rattle.std.specs.List.{find}
 use Rattle.std.specs.List.Sorted.{IsSortedBy}
 use Rattle.std.specs.Ordering.{is_lt}
@@ -8,10 +7,10 @@ use Rattle.std.proofs.lemmas.List.Sorted.{IsPermutation-map}
 use Rattle.std.specs.Str.{bytes_eq}
 use Rattle.kola_core.specs.declared.name.Name.{Name}
 use Rattle.kola_core.proofs.Lists.{taken_more}
-use Rattle.kola_values.specs.Values.{ValueTree, VObj, VUnit}
+use Rattle.kola_values.specs.Values.{ValueTree, VObj}
 use Rattle.kola_values.specs.Order.{cmp, same}
 use Rattle.kola_values.specs.Sets.{Rising, Each, any, has, canon}
-use Rattle.kola_values.specs.Databases.{Class, Object, Classes, Objects, look_up, value_or_unit, extent_class, objects_of, attribute_of}
+use Rattle.kola_values.specs.Databases.{Object, Classes, Objects, look_up, value_or_unit, extent_class, objects_of, attribute_of}
 use Rattle.kola_values.specs.Meets.{NoneTwice, object_values}
 use Rattle.kola_values.specs.Stored.{extents_of, object_named, attribute_in}
 use Rattle.kola_values.specs.Schemas.{extent_names}
@@ -21,7 +20,7 @@ use Rattle.kola_values.specs.ExtentViews.{extent_entry, filled}
 use Rattle.kola_values.specs.declared.value.Value.{Value}
 use Rattle.kola_values.specs.declared.object.ObjectDef.{ObjectDef}
 use Rattle.kola_values.specs.declared.db.Extent.{Extent}
-use Rattle.kola_values.proofs.Anys.{any_map, any_filter, equal, same_itself, canon_rising}
+use Rattle.kola_values.proofs.Anys.{any_map, any_filter, equal, canon_rising}
 use Rattle.kola_values.proofs.SameTypes.{name_itself}
 use Rattle.kola_values.proofs.Merging.{rising_filter}
 use Rattle.kola_values.proofs.Schemas.{choose}

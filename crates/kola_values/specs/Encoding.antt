@@ -1,7 +1,7 @@
 -- The encoding of structs as pairs nested to the right, of values and of types, and the values of a type's shape.
-use Rattle.std.specs.Prelude.{ℕ, ℤ, List, [], ◌∷◌, ◌≡◌, map}
+use Rattle.std.specs.Prelude.{◌≡◌, map}
 use Rattle.kola_values.specs.Values.{ValueTree, VUnit, VInt, VBool, VStr, VObj, VPair, VStruct, VSet, MemberValues, VNone, VMore, FieldValues, VEnd, VField, items, of_items}
-use Rattle.kola_values.specs.Types.{TypeTree, TInt, TStr, TBool, TUnit, TClass, TVar, TSet, TPair, TStruct, FieldTypes, TEnd, TField}
+use Rattle.kola_values.specs.Types.{TypeTree, TInt, TStr, TBool, TUnit, TClass, TSet, TPair, TStruct, FieldTypes, TEnd, TField}
 use Rattle.kola_values.specs.Sets.{Rising, Each}
 use Rattle.kola_core.specs.Integers.{In64}
 

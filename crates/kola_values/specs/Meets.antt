@@ -1,5 +1,5 @@
 -- When a database meets a schema: ids are distinct within a class, each object fits its class, and no two objects of a class agree on a key.
-use Rattle.std.specs.Prelude.{ℕ, ◌≤◌, ◌&&◌, Bool, true, false, List, [], ◌∷◌, Option, Some, ◌≡◌, map}
+use Rattle.std.specs.Prelude.{ℕ, ◌≤◌, ◌&&◌, Bool, true, false, List, [], ◌∷◌, Some, ◌≡◌, map}
 use Rattle.kola_values.specs.Values.{ValueTree, VObj}
 use Rattle.kola_values.specs.Order.{same}
 use Rattle.kola_values.specs.Types.{TypeTree, TClass}

@@ -1,12 +1,12 @@
 //! Schemas: lists of classes with their extents, attributes and keys, each found by its name.
-ghost use Rattle.std.specs.Prelude.{◌≡◌, ◌∷◌, true, map, slice_get, IfOk};
+ghost use Rattle.std.specs.Prelude.{◌≡◌, true, map, slice_get, IfOk};
 ghost use Rattle.std.specs.List.{list_any, list_all};
 ghost use Rattle.std.specs.Option.{option_map, option_copied};
 ghost use Rattle.std.specs.Str.{bytes_eq};
 ghost use Rattle.kola_values.specs.Databases.{attribute_type, extent_class, look_up};
 ghost use Rattle.kola_values.specs.Sets.{Each};
-ghost use Rattle.kola_values.specs.Schemas.{is_listed, are_distinct, names_of, class_names, extent_names, is_stored_type, is_key, is_class, is_schema, class_named, extent_named, key_at};
-ghost use Rattle.kola_values.specs.Views.{type_tree, type_entry, type_entry_at};
+ghost use Rattle.kola_values.specs.Schemas.{are_distinct, names_of, class_names, extent_names, is_stored_type, is_key, is_class, is_schema, class_named, extent_named, key_at};
+ghost use Rattle.kola_values.specs.Views.{type_tree};
 ghost use Rattle.kola_values.specs.SchemaViews.{class_tree, class_at, type_at};
 
 use crate::entries::{has_label, labels_are_distinct};

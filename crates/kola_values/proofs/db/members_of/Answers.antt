@@ -1,4 +1,4 @@
-use Rattle.std.proofs.Common.{◌∙◌, ◌++◌, ◌∷◌, [], sym, ap, map, subst, refl, arith}
+use Rattle.std.proofs.Common.{◌∙◌, ◌++◌, ◌∷◌, [], sym, ap, map, subst, arith}
 use Rattle.std.proofs.lemmas.List.{map-append, take_all}
 use Rattle.kola_core.proofs.Lists.{length_seen, taken_more}
 use Rattle.kola_values.specs.Values.{VObj}

@@ -1,11 +1,11 @@
-use Rattle.std.proofs.Common.{◌≡◌, ℕ, ◌+◌, ◌-◌, ◌<◌, ◌≤◌, ◌++◌, [], ◌∷◌, map, length, refl, sym, ap, ap₂, ◌∙◌, drop, subst, arith}
+use Rattle.std.proofs.Common.{◌+◌, ◌++◌, [], ◌∷◌, map, refl, sym, ap, ap₂, ◌∙◌, drop, subst, arith}
 use Rattle.std.proofs.lemmas.List.{drop_all}
-use Rattle.kola_values.specs.Types.{TSet, of_type_fields}
-use Rattle.kola_values.specs.Values.{ValueTree, VPair, VSet, VEnd, VField, of_items, of_fields, fields}
+use Rattle.kola_values.specs.Types.{of_type_fields}
+use Rattle.kola_values.specs.Values.{VSet, VEnd, of_items, fields}
 use Rattle.kola_values.specs.Sets.{Rising, Each}
 use Rattle.kola_values.specs.WellFormed.{WellFormed, WellFormedFields}
 use Rattle.kola_values.specs.Encoding.{dec, dec_fields}
-use Rattle.kola_values.specs.Views.{type_tree, type_entry, value_tree, value_entry}
+use Rattle.kola_values.specs.Views.{type_tree, type_entry, value_tree}
 use Rattle.kola_values.specs.Models.Weights.{type_weight}
 use Rattle.kola_core.proofs.Lists.{length_seen}
 use Rattle.kola_values.proofs.Loops.{type_entry_falls}

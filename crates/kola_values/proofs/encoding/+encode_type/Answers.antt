@@ -4,7 +4,7 @@ use Rattle.kola_values.specs.Encoding.{enc_type, enc_field_types}
 use Rattle.kola_values.specs.Views.{type_tree, type_entry}
 use Rattle.kola_values.specs.Models.Weights.{type_weight}
 use Rattle.kola_values.proofs.Loops.{type_entry_falls}
-use Rattle.kola_values.proofs.EncodingLoops.{last_type, one_more_type}
+use Rattle.kola_values.proofs.EncodingLoops.{one_more_type}
 use Rattle.kola_values.proofs.encoding.+encode_type.Goals as goal
 
 pub encode_field_types-encode_type-requires : goal.encode_field_types-encode_type-requires

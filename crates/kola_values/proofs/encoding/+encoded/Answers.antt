@@ -1,4 +1,4 @@
-use Rattle.std.proofs.Common.{◌≡◌, ◌+◌, ◌-◌, map, length, refl, sym, ap, ap₂, ◌∙◌, drop, subst, slice_index_or, arith}
+use Rattle.std.proofs.Common.{◌≡◌, ◌+◌, ◌-◌, map, length, refl, sym, ap, ap₂, ◌∙◌, drop, subst, arith}
 use Rattle.kola_values.specs.Values.{VPair, VSet, of_items, of_fields}
 use Rattle.kola_values.specs.Sets.{Rising, Each}
 use Rattle.kola_values.specs.WellFormed.{WellFormed}
@@ -7,7 +7,7 @@ use Rattle.kola_values.specs.Views.{value_tree, value_entry}
 use Rattle.kola_values.specs.Models.Weights.{weight, members_weight}
 use Rattle.kola_values.proofs.Loops.{member_falls, value_entry_falls}
 use Rattle.kola_values.proofs.EncodingOrder.{enc_members-of_items}
-use Rattle.kola_values.proofs.EncodingLoops.{last_value, one_more_value, value_well_formed, made_more, made_well_formed, set_parts}
+use Rattle.kola_values.proofs.EncodingLoops.{one_more_value, value_well_formed, made_more, made_well_formed, set_parts}
 use Rattle.kola_values.proofs.encoding.+encoded.Goals as goal
 
 pub encoded-encoded_members-requires : goal.encoded-encoded_members-requires

@@ -8,7 +8,7 @@ use kola_values::{
 use std::alloc::{AllocError, Global};
 
 /// The count that a load of this name and size answers; none where no load has the name.
-pub fn run_load(alloc: Global, name: &str, n: u32) -> Result<Option<usize>, Memory> {
+pub(crate) fn run_load(alloc: Global, name: &str, n: u32) -> Result<Option<usize>, Memory> {
     let count = match name {
         "set" => mixed_set(alloc, 0, n)?.len(),
         "sets" => two_sets(alloc, n)?,

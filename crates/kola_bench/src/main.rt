@@ -3,10 +3,9 @@
 
 mod loads;
 
+use loads::run_load;
 use std::process::ExitCode;
 use std::{env, io};
-
-use loads::run_load;
 
 /// The words behind the program's name.
 fn words(rt: &HostRuntime) -> io::Result<Vec<String>> {

@@ -71,7 +71,7 @@ module _ {T A L : Type 0} (f : A → T → Move T L) (F : A → T → L → List
   hard_reads (suc n) a =
       may_reads a (λ t. one_link (λ l. chain hard_link grow n (grow a l)) (hard_link a t)) (λ t. Chained (F a t) (λ l. ChainText F grow n (grow a l))) K
       (λ t. hard_one (f a t) (F a t) I K (J a t) (K a t) (λ l. chain hard_link grow n (grow a l)) (λ l. ChainText F grow n (grow a l)) (λ l. hard_reads n (grow a l))
-        (λ l y v r c e. on_operand a l (v ++ r) (chain_clear n (grow a l) y v r c e)) (links a t))
+      (λ l y v r c e. on_operand a l (v ++ r) (chain_clear n (grow a l) y v r c e)) (links a t))
 
   soft_at : (a b : A) (more next : L → List T → Answer T A) (t : T) (ts : List T) (m : Move T L) (H : L → List T → Type 0) (k : Bool) → LinkReads m H I false k → ((l : L) (s : List T) → Ends (I l) s → more l s ≡ next l s)
       → may_at a (one_link more m) t ts ≡ may_at a (one_link next m) t ts

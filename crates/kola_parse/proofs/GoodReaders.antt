@@ -156,7 +156,6 @@ reaches {T} (x ∷ w) t r (y ∷ v) s e l =
     (more.0, let v-is = more.1 in cc)
 
 module _ {T A : Type 0} (p : ℕ → List T → Answer T A) (L : ℕ → A → List T → Type 0) (K : A → T → Bool) (good : (d : ℕ) → Good (Unit {0}) (p d) (p (suc d)) (L d) (L (suc d)) K) where
-
   -- a text, read with nothing after it
   pub reads_all : (d : ℕ) (x : A) (w : List T) → L d x w → p d w ≡ Ok (x, [])
   reads_all d x w h = ap (p d) (sym (append-nil w)) ∙ (good d).low.complete x w [] h tt

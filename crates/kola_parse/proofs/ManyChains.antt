@@ -12,7 +12,6 @@ hard_shrinks : {T L : Type 0} (m : Move T L) (j : Bool) → MoveShrinks m → Mo
 hard_shrinks m true h = tt
 hard_shrinks m false h = h
 
-
 module _ {T A L : Type 0} (f : A → T → Move T L) (grow : A → L → A) (small : (a : A) (t : T) → MoveShrinks (f a t)) where
   -- with as many links as tokens, more change nothing
   enough_at : (n m : ℕ) (a : A) (t : T) (ts : List T) (v : Move T L) → MoveShrinks v
@@ -57,7 +56,6 @@ module _ {T A L : Type 0} (f : A → T → Move T L) (grow : A → L → A) (sma
   more_links (suc n) zero h a ts y e = absurd (omega (arith, h))
   more_links (suc n) (suc m) h a [] y e = e
   more_links (suc n) (suc m) h a (t ∷ ts) y e = more_at n m a t ts (f a t) y (λ b s. more_links n m (omega (arith, h)) b s y) e
-
 
   module _ (F : A → T → L → List T → Type 0) (K : A → T → Bool) (reads : (n : ℕ) (a : A) → Reads (chain f grow n a) (ChainText F grow n a) K) where
     many_complete : (a x : A) (w r : List T) → ManyText F grow a x w → Ends (K x) r → many f grow a (w ++ r) ≡ Ok (x, r)

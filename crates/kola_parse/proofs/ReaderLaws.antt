@@ -84,7 +84,6 @@ two p k ts = two_from p k ts (p ts) refl
 
 module _ {T A B : Type 0} (p : List T → Answer T A) (k : A → List T → Answer T B) (L : A → List T → Type 0) (M : A → B → List T → Type 0) (K : A → T → Bool) (J : B → T → Bool)
     (first : Reads p L K) (second : (a : A) → Reads (k a) (M a) J) (clear : (a : A) (y : B) (v r : List T) → M a y v → Ends (J y) r → Ends (K a) (v ++ r)) where
-
   then_sound : (ts : List T) (y : B) (r : List T) (z : Answer T B) → Two p k ts z → z ≡ Ok (y, r) → Took (Chained L M) J ts y r
   then_sound ts y r z (Fails f e) h = absurd (no_ok (y, r) f h)
   then_sound ts y r z (Goes_on a s e) h =
@@ -102,7 +101,10 @@ module _ {T A B : Type 0} (p : List T → Answer T A) (k : A → List T → Answ
       let one = first.viable ts f (e ∙ h') in
       let other = (second one.tree).some in
       record {
-        text = one.text; split = one.split; more = one.more ++ other.text; tree = other.tree;
+        text = one.text;
+        split = one.split;
+        more = one.more ++ other.text;
+        tree = other.tree;
         spells = record { mid = one.tree; front = one.text ++ one.more; back = other.text; split = sym (append_assoc one.text one.more other.text); first = one.spells; second = other.spells };
       }
     where
@@ -114,7 +116,8 @@ module _ {T A B : Type 0} (p : List T → Answer T A) (k : A → List T → Answ
       record {
         text = one.text ++ other.text;
         split = one.split ∙ ap (λ (x : List T). one.text ++ x) other.split ∙ sym (append_assoc one.text other.text f.rest);
-        more = other.more; tree = other.tree;
+        more = other.more;
+        tree = other.tree;
         spells = record { mid = a; front = one.text; back = other.text ++ other.more; split = append_assoc one.text other.text other.more; first = one.spells; second = other.spells };
       }
 

@@ -67,7 +67,10 @@ fn text_of_encoded_type(alloc: Global) -> Result<Vec<u8>, Memory> {
 
 #[test]
 fn a_struct_of_two_fields(rt: HostRuntime) -> Result<(), Fail> {
-    assert_eq!(rt; text_of_encoding(rt.alloc())?.as_slice(), b"[1, 2]".as_slice());
+    assert_eq!(rt;
+        text_of_encoding(rt.alloc())?.as_slice(),
+        b"[1, 2]".as_slice()
+    );
     Ok(())
 }
 
@@ -82,6 +85,9 @@ fn a_pair_back_to_a_struct(rt: HostRuntime) -> Result<(), Fail> {
 
 #[test]
 fn the_type_of_encodings(rt: HostRuntime) -> Result<(), Fail> {
-    assert_eq!(rt; text_of_encoded_type(rt.alloc())?.as_slice(), b"(int, int)".as_slice());
+    assert_eq!(rt;
+        text_of_encoded_type(rt.alloc())?.as_slice(),
+        b"(int, int)".as_slice()
+    );
     Ok(())
 }

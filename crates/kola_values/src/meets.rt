@@ -233,7 +233,7 @@ pub enum ObjectsRefused {
 
 impl Db {
     /// The database of these objects, or `NotMet` exactly where they do not meet the schema, in the sense of `objects_ok`. Its time goes with
-    /// the number of objects times its logarithm: it sorts the objects where they stand, and what each key says of each.
+    /// the number of objects, and of classes, times the logarithm of the first: it sorts the objects where they stand, and what each key says of each.
     pub fn try_make(
         alloc: Global,
         schema: &Schema,

@@ -1,5 +1,5 @@
 -- One example of each function and predicate of the algebra, computed: its value, or truth, and its visits.
-use Rattle.std.proofs.Common.{◌≡◌, ℕ, pos, List, [], ◌∷◌, Bool, true, refl, codes}
+use Rattle.std.proofs.Common.{◌≡◌, ℕ, pos, List, [], ◌∷◌, Bool, true, false, refl, codes}
 use Rattle.kola_values.specs.Values.{ValueTree, VInt, VObj, VPair, VSet, of_items}
 use Rattle.kola_values.specs.Order.{same}
 use Rattle.kola_values.specs.Sets.{any, all, set_of}
@@ -60,6 +60,11 @@ partial = (refl, refl)
 choice : Gives (FIf PLt FFst FSnd) (ints 2 1) (int 1) 0
 choice = (refl, refl)
 
+-- the branch that is not taken is not visited
+the_branch_taken : Gives (FIf (PKP false) FFlat (FK (CSet (int 1 ∷ [])))) (two (one (int 1)) (two (int 1) (int 2))) (one (int 1)) 0
+unfolding set_of
+the_branch_taken = (refl, refl)
+
 flat : Gives FFlat (two (one (int 1)) (two (int 1) (int 2))) (two (int 1) (int 2)) 2
 unfolding set_of
 flat = (refl, refl)
@@ -109,6 +114,13 @@ both = (refl, refl)
 either : Says (POr PLt PEq) (ints 1 1) true 0
 unfolding same
 either = (refl, refl)
+
+-- what the first leaves decided is not looked at
+false_decides : Says (PAnd (PKP false) (PEx PEq)) (VPair (int 1) (two (int 1) (int 2))) false 0
+false_decides = (refl, refl)
+
+true_decides : Says (POr (PKP true) (PEx PEq)) (VPair (int 1) (two (int 1) (int 2))) true 0
+true_decides = (refl, refl)
 
 turned_round : Says (PInv PLt) (ints 2 1) true 0
 turned_round = (refl, refl)

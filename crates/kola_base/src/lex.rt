@@ -315,14 +315,13 @@ mod tests {
             (b"\"\xc3\xa9// x\"", b"\xc3\xa9// x"),
         ];
         for (text, want) in shown {
-            let mut strings = 0;
-            for token in &tokens(rt.alloc(), text)? {
+            let found = tokens(rt.alloc(), text)?;
+            assert_eq!(rt; found.len(), 2);
+            for token in &found {
                 if let Kind::Quoted = token.kind {
-                    strings += 1;
                     assert_eq!(rt; quoted_of(rt.alloc(), text, token)?.as_slice(), want);
                 }
             }
-            assert_eq!(rt; strings, 1);
         }
         Ok(())
     }

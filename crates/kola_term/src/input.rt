@@ -1,10 +1,9 @@
 //! The input types at the places of a typed term.
 
-ghost use Rattle.std.specs.Prelude.{◌≡◌, ◌↔◌, IfOk, option_and_then};
+ghost use Rattle.std.specs.Prelude.{◌≡◌, ◌↔◌, IfOk};
 ghost use Rattle.std.specs.Option.{option_map};
-ghost use Rattle.kola_values.specs.Types.{TPair};
 ghost use Rattle.kola_values.specs.Views.{type_tree};
-ghost use Rattle.kola_term.specs.Typing.{const_type, first_type, second_type, member_type, iter_type, join_type, pair_of};
+ghost use Rattle.kola_term.specs.Typing.{const_type};
 ghost use Rattle.kola_term.specs.TermView.{const_tree, fun_tree, pred_tree, term_tree};
 ghost use Rattle.kola_term.specs.ContextView.{context_of};
 ghost use Rattle.kola_term.specs.Places.{Typed, sub_at, place};
@@ -14,6 +13,9 @@ ghost use Rattle.kola_term.specs.Replacing.{IsAnswer};
 ghost use Rattle.kola_term.specs.Inputs.{beside, fun_input, pred_input, child_input, at_node, IsInput};
 
 use crate::constant::Const;
+use crate::inputs::{
+    beside, copied, first, member, member_of_first, members_of_both, second, turned, with_member,
+};
 use crate::meta::MetaCtx;
 use crate::part::SubTerm;
 use crate::place::PlaceFault;
@@ -22,54 +24,6 @@ use crate::unlimited::{const_type, out_type_without_limit};
 use kola_core::{Memory, Path};
 use kola_values::{Schema, Ty};
 use std::alloc::Global;
-
-/// A copy of a type.
-fn same(t: &Ty) -> Result<Option<Ty>, Memory>
-    ensures { IfOk result (λ o. option_map type_tree o ≡ Some (type_tree t.now)) }
-{
-    let t = t.copy()?;
-    Ok(Some(t))
-}
-
-/// The first part of a pair.
-fn first(t: &Ty) -> Result<Option<Ty>, Memory>
-    ensures { IfOk result (λ o. option_map type_tree o ≡ first_type (type_tree t.now)) }
-{
-    match t {
-        Ty::Pair(first, _) => same(first.get()),
-        _ => Ok(None),
-    }
-}
-
-/// The second part of a pair.
-fn second(t: &Ty) -> Result<Option<Ty>, Memory>
-    ensures { IfOk result (λ o. option_map type_tree o ≡ second_type (type_tree t.now)) }
-{
-    match t {
-        Ty::Pair(_, second) => same(second.get()),
-        _ => Ok(None),
-    }
-}
-
-/// The type of a set's members.
-fn member(t: &Ty) -> Result<Option<Ty>, Memory>
-    ensures { IfOk result (λ o. option_map type_tree o ≡ member_type (type_tree t.now)) }
-{
-    match t {
-        Ty::Set(member) => same(member.get()),
-        _ => Ok(None),
-    }
-}
-
-/// A pair of copies of two types.
-fn copied_pair(alloc: Global, t: &Ty, u: &Ty) -> Result<Option<Ty>, Memory>
-    ensures { IfOk result (λ o. option_map type_tree o ≡ Some (TPair (type_tree t.now) (type_tree u.now))) }
-{
-    let t = t.copy()?;
-    let u = u.copy()?;
-    let pair = Ty::pair_of(alloc, t, u)?;
-    Ok(Some(pair))
-}
 
 /// A constant's type with the type behind it.
 fn with_constant(
@@ -85,58 +39,8 @@ fn with_constant(
     let Some(constant) = const_type(alloc, schema, ctx, c)? else {
         return Ok(None);
     };
-    let t = t.copy()?;
-    let pair = Ty::pair_of(alloc, constant, t)?;
+    let pair = beside(alloc, constant, t)?;
     Ok(Some(pair))
-}
-
-/// An environment and a set, as the environment and a member.
-fn with_member(alloc: Global, t: &Ty) -> Result<Option<Ty>, Memory>
-    ensures { IfOk result (λ o. option_map type_tree o ≡ iter_type (type_tree t.now)) }
-{
-    let Ty::Pair(environment, set) = t else {
-        return Ok(None);
-    };
-    let Ty::Set(member) = set.get() else {
-        return Ok(None);
-    };
-    copied_pair(alloc, environment.get(), member.get())
-}
-
-/// Two sets, as a member of each.
-fn members_of_both(alloc: Global, t: &Ty) -> Result<Option<Ty>, Memory>
-    ensures { IfOk result (λ o. option_map type_tree o ≡ join_type (type_tree t.now)) }
-{
-    let Ty::Pair(left, right) = t else {
-        return Ok(None);
-    };
-    let (Ty::Set(x), Ty::Set(y)) = (left.get(), right.get()) else {
-        return Ok(None);
-    };
-    copied_pair(alloc, x.get(), y.get())
-}
-
-/// Of two sets, a member of the first.
-fn member_of_first(t: &Ty) -> Result<Option<Ty>, Memory>
-    ensures { IfOk result (λ o. option_map type_tree o ≡ option_and_then first_type (join_type (type_tree t.now))) }
-{
-    let Ty::Pair(left, right) = t else {
-        return Ok(None);
-    };
-    let (Ty::Set(x), Ty::Set(_)) = (left.get(), right.get()) else {
-        return Ok(None);
-    };
-    same(x.get())
-}
-
-/// A pair turned round.
-fn turned(alloc: Global, t: &Ty) -> Result<Option<Ty>, Memory>
-    ensures { IfOk result (λ o. option_map type_tree o ≡ pair_of (second_type (type_tree t.now)) (first_type (type_tree t.now))) }
-{
-    let Ty::Pair(first, second) = t else {
-        return Ok(None);
-    };
-    copied_pair(alloc, second.get(), first.get())
 }
 
 /// The input type of a function's child.
@@ -154,13 +58,13 @@ fn fun_input(
     match (f, n) {
         (Fun::Comp(_, g), 1) => out_type_without_limit(alloc, schema, ctx, g, t),
         (Fun::C(_, c), 1) => with_constant(alloc, schema, ctx, c, t),
-        (Fun::Times(_, _), 1) => first(t),
-        (Fun::Times(_, _), _) => second(t),
-        (Fun::Iterate(_, _) | Fun::Unnest(_, _), _) => member(t),
+        (Fun::Times(_, _), 1) => copied(first(t)),
+        (Fun::Times(_, _), _) => copied(second(t)),
+        (Fun::Iterate(_, _) | Fun::Unnest(_, _), _) => copied(member(t)),
         (Fun::Iter(_, _), _) => with_member(alloc, t),
         (Fun::Join(_, _), _) => members_of_both(alloc, t),
-        (Fun::Nest(_, _), _) => member_of_first(t),
-        _ => same(t),
+        (Fun::Nest(_, _), _) => copied(member_of_first(t)),
+        _ => copied(Some(t)),
     }
 }
 
@@ -181,7 +85,7 @@ fn pred_input(
         (Pred::CP(_, c), 1) => with_constant(alloc, schema, ctx, c, t),
         (Pred::Inv(_), _) => turned(alloc, t),
         (Pred::Ex(_) | Pred::Fa(_), _) => with_member(alloc, t),
-        _ => same(t),
+        _ => copied(Some(t)),
     }
 }
 
@@ -200,7 +104,7 @@ fn child_input(
     match part {
         SubTerm::F(f) => fun_input(alloc, schema, ctx, f, n, t),
         SubTerm::P(p) => pred_input(alloc, schema, ctx, p, n, t),
-        SubTerm::C(_) => same(t),
+        SubTerm::C(_) => copied(Some(t)),
     }
 }
 

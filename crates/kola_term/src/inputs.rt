@@ -6,10 +6,7 @@ ghost use Rattle.kola_values.specs.Types.{TSet, TPair};
 ghost use Rattle.kola_values.specs.Views.{type_tree};
 ghost use Rattle.kola_values.specs.SchemaViews.{type_at};
 ghost use Rattle.kola_term.specs.Typing.{first_type, second_type, member_type, twin_type, iter_type, join_type, pair_of};
-ghost use Rattle.kola_term.specs.Judging.{given};
-ghost use Rattle.kola_term.specs.TypingAnswers.{IsTyping};
 
-use crate::typing::{TypeFault, TypeWhy, refused};
 use kola_core::Memory;
 use kola_values::Ty;
 use std::alloc::Global;
@@ -101,13 +98,26 @@ pub(crate) fn twin_member(t: &Ty) -> Option<&Ty>
     }
 }
 
+/// A copy of a part of a type.
+pub(crate) fn copied(part: Option<&Ty>) -> Result<Option<Ty>, Memory>
+    ensures { IfOk result (λ o. option_map type_tree o ≡ option_map type_at part.entry) }
+{
+    match part {
+        Some(t) => {
+            let t = t.copy()?;
+            Ok(Some(t))
+        }
+        None => Ok(None),
+    }
+}
+
 /// A pair of copies of two types.
-fn copied_pair(alloc: Global, t: &Ty, u: &Ty) -> Result<Ty, Memory>
-    ensures { IfOk result (λ r. type_tree r ≡ TPair (type_tree t.now) (type_tree u.now)) }
+fn copied_pair(alloc: Global, t: &Ty, u: &Ty) -> Result<Option<Ty>, Memory>
+    ensures { IfOk result (λ o. option_map type_tree o ≡ Some (TPair (type_tree t.now) (type_tree u.now))) }
 {
     let first = t.copy()?;
-    let second = u.copy()?;
-    Ty::pair_of(alloc, first, second)
+    let pair = beside(alloc, first, u)?;
+    Ok(Some(pair))
 }
 
 /// A pair of a type and a copy of another.
@@ -119,40 +129,50 @@ pub(crate) fn beside(alloc: Global, first: Ty, t: &Ty) -> Result<Ty, Memory>
 }
 
 /// A pair turned round.
-pub(crate) fn turned(alloc: Global, t: &Ty) -> Result<Ty, TypeFault>
-    ensures { IsTyping result (given (pair_of (second_type (type_tree t.now)) (first_type (type_tree t.now)))) }
+pub(crate) fn turned(alloc: Global, t: &Ty) -> Result<Option<Ty>, Memory>
+    ensures { IfOk result (λ o. option_map type_tree o ≡ pair_of (second_type (type_tree t.now)) (first_type (type_tree t.now))) }
 {
     let Ty::Pair(first, second) = t else {
-        return Err(refused(alloc, TypeWhy::NotThisInput));
+        return Ok(None);
     };
-    let pair = copied_pair(alloc, second.get(), first.get())?;
-    Ok(pair)
+    copied_pair(alloc, second.get(), first.get())
 }
 
 /// An environment and a set, as the environment and a member.
-pub(crate) fn with_member(alloc: Global, t: &Ty) -> Result<Ty, TypeFault>
-    ensures { IsTyping result (given (iter_type (type_tree t.now))) }
+pub(crate) fn with_member(alloc: Global, t: &Ty) -> Result<Option<Ty>, Memory>
+    ensures { IfOk result (λ o. option_map type_tree o ≡ iter_type (type_tree t.now)) }
 {
     let Ty::Pair(environment, set) = t else {
-        return Err(refused(alloc, TypeWhy::NotThisInput));
+        return Ok(None);
     };
     let Ty::Set(member) = set.get() else {
-        return Err(refused(alloc, TypeWhy::NotThisInput));
+        return Ok(None);
     };
-    let pair = copied_pair(alloc, environment.get(), member.get())?;
-    Ok(pair)
+    copied_pair(alloc, environment.get(), member.get())
 }
 
 /// Two sets, as a member of each.
-pub(crate) fn members_of_both(alloc: Global, t: &Ty) -> Result<Ty, TypeFault>
-    ensures { IsTyping result (given (join_type (type_tree t.now))) }
+pub(crate) fn members_of_both(alloc: Global, t: &Ty) -> Result<Option<Ty>, Memory>
+    ensures { IfOk result (λ o. option_map type_tree o ≡ join_type (type_tree t.now)) }
 {
     let Ty::Pair(left, right) = t else {
-        return Err(refused(alloc, TypeWhy::NotThisInput));
+        return Ok(None);
     };
     let (Ty::Set(x), Ty::Set(y)) = (left.get(), right.get()) else {
-        return Err(refused(alloc, TypeWhy::NotThisInput));
+        return Ok(None);
     };
-    let pair = copied_pair(alloc, x.get(), y.get())?;
-    Ok(pair)
+    copied_pair(alloc, x.get(), y.get())
+}
+
+/// Of two sets, a member of the first.
+pub(crate) fn member_of_first(t: &Ty) -> Option<&Ty>
+    ensures { option_map type_at result ≡ option_and_then first_type (join_type (type_tree t.now)) }
+{
+    let Ty::Pair(left, right) = t else {
+        return None;
+    };
+    let (Ty::Set(x), Ty::Set(_)) = (left.get(), right.get()) else {
+        return None;
+    };
+    Some(x.get())
 }

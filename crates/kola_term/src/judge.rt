@@ -126,6 +126,16 @@ impl Judge<'_> {
         }
     }
 
+    /// The input type of a child, where there is one.
+    pub(crate) fn input(&self, input: Option<Ty>) -> Result<Ty, TypeFault>
+        ensures { IsTyping result (given (option_map type_tree input)) }
+    {
+        match input {
+            Some(t) => Ok(t),
+            None => Err(self.fault(TypeWhy::NotThisInput)),
+        }
+    }
+
     /// The answer of a predicate that wants a part of its input.
     pub(crate) fn wanted(&self, part: Option<&Ty>) -> Result<(), TypeFault>
         ensures { IsCheck result (no_size (lacks NotThisInput (option_map type_at part.entry)) (Some TBool)) }

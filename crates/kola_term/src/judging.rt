@@ -144,7 +144,7 @@ impl Judge<'_> {
     fn iter(&self, p: &Pred, f: &Fun, t: &Ty) -> Result<Ty, TypeFault>
         ensures { IsTyping result (typing self.now.schema.now (context_of self.now.ctx.now) self.now.limited (FIter (pred_tree p.now) (fun_tree f.now)) (type_tree t.now)) }
     {
-        let input = with_member(self.alloc, t)?;
+        let input = self.input(with_member(self.alloc, t)?)?;
         self.set_over(p, f, &input)
     }
 
@@ -152,7 +152,7 @@ impl Judge<'_> {
     fn join(&self, p: &Pred, f: &Fun, t: &Ty) -> Result<Ty, TypeFault>
         ensures { IsTyping result (typing self.now.schema.now (context_of self.now.ctx.now) self.now.limited (FJoin (pred_tree p.now) (fun_tree f.now)) (type_tree t.now)) }
     {
-        let input = members_of_both(self.alloc, t)?;
+        let input = self.input(members_of_both(self.alloc, t)?)?;
         self.set_over(p, f, &input)
     }
 
@@ -210,7 +210,7 @@ impl Judge<'_> {
     fn inverse(&self, p: &Pred, t: &Ty) -> Result<(), TypeFault>
         ensures { IsCheck result (checking self.now.schema.now (context_of self.now.ctx.now) self.now.limited (PInv (pred_tree p.now)) (type_tree t.now)) }
     {
-        let input = turned(self.alloc, t)?;
+        let input = self.input(turned(self.alloc, t)?)?;
         self.pred_under(1, p, &input)
     }
 
@@ -227,7 +227,7 @@ impl Judge<'_> {
     fn quantified(&self, p: &Pred, t: &Ty) -> Result<(), TypeFault>
         ensures { IsCheck result (checking self.now.schema.now (context_of self.now.ctx.now) self.now.limited (PEx (pred_tree p.now)) (type_tree t.now)) }
     {
-        let input = with_member(self.alloc, t)?;
+        let input = self.input(with_member(self.alloc, t)?)?;
         self.pred_under(1, p, &input)
     }
 

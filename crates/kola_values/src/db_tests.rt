@@ -1,70 +1,47 @@
 //! Databases made with ample memory, and their look-ups.
-use crate::{
-    ClassDef, Db, Fields, Keys, ObjectDef, Schema, Set, Ty, Value, ValueFields, classes_ok,
-};
-use kola_core::{Memory, Name};
+use crate::samples::{name, objects, reference, schema};
+use crate::{Db, ObjectDef, Set, Value};
+use kola_core::Memory;
 use std::alloc::Global;
 use std::test::Fail;
 
-fn name(alloc: Global, text: &str) -> Result<Name, Memory> {
-    Name::from_text(alloc, text)
-}
-
-// A class with the one attribute `year`.
-fn class(alloc: Global, class: &str, extent: &str) -> Result<ClassDef, Memory> {
-    let mut attributes = Fields::new(alloc);
-    attributes.push((name(alloc, "year")?, Ty::Int))?;
-    Ok(ClassDef {
-        name: name(alloc, class)?,
-        extent: name(alloc, extent)?,
-        attributes,
-        keys: Keys::new(alloc),
-    })
-}
-
-fn object(alloc: Global, class: &str, id: u32, year: i64) -> Result<ObjectDef, Memory> {
-    let mut values = ValueFields::new(alloc);
-    values.push((name(alloc, "year")?, Value::Int(year)))?;
-    Ok(ObjectDef {
-        class: name(alloc, class)?,
-        id,
-        values,
-    })
-}
-
-// Two vehicles and a boat, or none of them, under a schema of boats, vehicles and trains.
-fn database(alloc: Global, empty: bool) -> Result<Option<Db>, Memory> {
-    let mut classes = Vec::new(alloc);
-    classes.push(class(alloc, "Vehicle", "Vehicles")?)?;
-    classes.push(class(alloc, "Boat", "Boats")?)?;
-    classes.push(class(alloc, "Train", "Trains")?)?;
-    let mut objects = Vec::new(alloc);
-    if !empty {
-        objects.push(object(alloc, "Vehicle", 2, 2001)?)?;
-        objects.push(object(alloc, "Boat", 3, 1912)?)?;
-        objects.push(object(alloc, "Vehicle", 1, 1990)?)?;
-    }
-    if !classes_ok(classes.as_slice()) {
+// The database of these objects under the schema of persons and vehicles; nothing where there is none.
+fn database_of(alloc: Global, objects: Vec<ObjectDef>) -> Result<Option<Db>, Memory> {
+    let Some(schema) = schema(alloc)? else {
         return Ok(None);
-    }
-    let schema = Schema::make(alloc, classes)?;
-    match Db::try_make(alloc, &schema, objects) {
-        Ok(db) => Ok(Some(db)),
-        Err(_) => Ok(None),
+    };
+    Ok(Db::try_make(alloc, &schema, objects).ok())
+}
+
+fn database(alloc: Global) -> Result<Option<Db>, Memory> {
+    let objects = objects(alloc)?;
+    database_of(alloc, objects)
+}
+
+// How many members the extent of the name has; nothing where there is none.
+fn extent_len(db: &Db, alloc: Global, extent: &str) -> Result<Option<usize>, Memory> {
+    let extent = name(alloc, extent)?;
+    Ok(db.extent(&extent).map(|set: &Set| set.len()))
+}
+
+fn is_in_extent(
+    db: &Db,
+    alloc: Global,
+    extent: &str,
+    class: &str,
+    id: u32,
+) -> Result<bool, Memory> {
+    let extent = name(alloc, extent)?;
+    let object = reference(alloc, class, id)?;
+    match db.extent(&extent) {
+        Some(set) => Ok(set.holds(&object)),
+        None => Ok(false),
     }
 }
 
-// Whether a set has exactly the objects of a class with these ids.
-fn is_set(alloc: Global, found: Option<&Set>, class: &str, ids: &[u32]) -> Result<bool, Memory> {
-    let Some(set) = found else {
-        return Ok(false);
-    };
-    for id in ids {
-        if !set.holds(&Value::Obj(name(alloc, class)?, *id)) {
-            return Ok(false);
-        }
-    }
-    Ok(set.len() == ids.len())
+fn has_object(db: &Db, alloc: Global, class: &str, id: u32) -> Result<bool, Memory> {
+    let class = name(alloc, class)?;
+    Ok(db.has_object(&class, id))
 }
 
 fn is_int(found: Option<&Value>, n: i64) -> bool {
@@ -74,59 +51,106 @@ fn is_int(found: Option<&Value>, n: i64) -> bool {
     }
 }
 
+fn has_year(db: &Db, alloc: Global, class: &str, id: u32, n: i64) -> Result<bool, Memory> {
+    let class = name(alloc, class)?;
+    let year = name(alloc, "year")?;
+    Ok(is_int(db.attribute(&class, id, &year), n))
+}
+
+// The members of an extent of the sample, counted; of no database none.
+fn members(alloc: Global, extent: &str) -> Result<Option<usize>, Memory> {
+    match database(alloc)? {
+        Some(db) => extent_len(&db, alloc, extent),
+        None => Ok(None),
+    }
+}
+
+fn members_of_none(alloc: Global, extent: &str) -> Result<Option<usize>, Memory> {
+    match database_of(alloc, Vec::new(alloc))? {
+        Some(db) => extent_len(&db, alloc, extent),
+        None => Ok(None),
+    }
+}
+
+fn is_member(alloc: Global, extent: &str, class: &str, id: u32) -> Result<bool, Memory> {
+    match database(alloc)? {
+        Some(db) => is_in_extent(&db, alloc, extent, class, id),
+        None => Ok(false),
+    }
+}
+
+fn is_there(alloc: Global, class: &str, id: u32) -> Result<bool, Memory> {
+    match database(alloc)? {
+        Some(db) => has_object(&db, alloc, class, id),
+        None => Ok(false),
+    }
+}
+
+fn is_of_year(alloc: Global, class: &str, id: u32, n: i64) -> Result<bool, Memory> {
+    match database(alloc)? {
+        Some(db) => has_year(&db, alloc, class, id, n),
+        None => Ok(false),
+    }
+}
+
 #[test]
 fn extents(rt: HostRuntime) -> Result<(), Fail> {
-    let alloc = rt.alloc();
-    let Some(db) = database(alloc, false)? else {
-        assert!(rt; false);
-        return Ok(());
-    };
-    assert!(rt;
-        is_set(
-            alloc,
-            db.extent(&name(alloc, "Vehicles")?),
-            "Vehicle",
-            &[1, 2]
-        )?
-    );
-    assert!(rt; is_set(alloc, db.extent(&name(alloc, "Boats")?), "Boat", &[3])?);
-    assert!(rt; is_set(alloc, db.extent(&name(alloc, "Trains")?), "Train", &[])?);
-    assert!(rt; db.extent(&name(alloc, "Vehicle")?).is_none());
+    for (extent, wanted) in [
+        ("Vehicles", Some(2)),
+        ("Persons", Some(1)),
+        ("Vehicle", None),
+    ] {
+        let found = members(rt.alloc(), extent)?;
+        assert_eq!(rt; found, wanted);
+    }
     Ok(())
 }
 
 #[test]
-fn objects_and_attributes(rt: HostRuntime) -> Result<(), Fail> {
-    let alloc = rt.alloc();
-    let Some(db) = database(alloc, false)? else {
-        assert!(rt; false);
-        return Ok(());
-    };
-    let (vehicle, boat, year) = (
-        name(alloc, "Vehicle")?,
-        name(alloc, "Boat")?,
-        name(alloc, "year")?,
-    );
-    assert!(rt;
-        db.has_object(&vehicle, 1) && db.has_object(&vehicle, 2) && db.has_object(&boat, 3)
-    );
-    assert!(rt; !db.has_object(&vehicle, 3) && !db.has_object(&boat, 1));
-    assert!(rt; is_int(db.attribute(&vehicle, 1, &year), 1990));
-    assert!(rt; is_int(db.attribute(&vehicle, 2, &year), 2001));
-    assert!(rt; is_int(db.attribute(&boat, 3, &year), 1912));
-    assert!(rt; db.attribute(&vehicle, 3, &year).is_none());
-    assert!(rt; db.attribute(&vehicle, 1, &boat).is_none());
+fn members_of_extents(rt: HostRuntime) -> Result<(), Fail> {
+    for (class, id, wanted) in [
+        ("Vehicle", 1, true),
+        ("Vehicle", 2, true),
+        ("Vehicle", 3, false),
+        ("Person", 1, false),
+    ] {
+        let found = is_member(rt.alloc(), "Vehicles", class, id)?;
+        assert_eq!(rt; found, wanted);
+    }
     Ok(())
 }
 
 #[test]
 fn a_database_of_no_object(rt: HostRuntime) -> Result<(), Fail> {
-    let alloc = rt.alloc();
-    let Some(db) = database(alloc, true)? else {
-        assert!(rt; false);
-        return Ok(());
-    };
-    assert!(rt; is_set(alloc, db.extent(&name(alloc, "Boats")?), "Boat", &[])?);
-    assert!(rt; !db.has_object(&name(alloc, "Boat")?, 1));
+    let found = members_of_none(rt.alloc(), "Vehicles")?;
+    assert_eq!(rt; found, Some(0));
+    Ok(())
+}
+
+#[test]
+fn objects_by_class_and_id(rt: HostRuntime) -> Result<(), Fail> {
+    for (class, id, wanted) in [
+        ("Vehicle", 2, true),
+        ("Person", 1, true),
+        ("Person", 2, false),
+        ("Boat", 1, false),
+    ] {
+        let found = is_there(rt.alloc(), class, id)?;
+        assert_eq!(rt; found, wanted);
+    }
+    Ok(())
+}
+
+#[test]
+fn attributes_by_name(rt: HostRuntime) -> Result<(), Fail> {
+    for (class, id, year, wanted) in [
+        ("Vehicle", 1, 1990, true),
+        ("Vehicle", 2, 2001, true),
+        ("Vehicle", 3, 1990, false),
+        ("Person", 1, 1990, false),
+    ] {
+        let found = is_of_year(rt.alloc(), class, id, year)?;
+        assert_eq!(rt; found, wanted);
+    }
     Ok(())
 }

@@ -1,44 +1,9 @@
 //! Schemas made with ample memory, and their look-ups.
-use crate::{ClassDef, Fields, Keys, Schema, Ty, classes_ok};
-use kola_core::{Memory, Name, Names};
+use crate::Schema;
+use crate::samples::{name, schema};
+use kola_core::{Memory, Name};
 use std::alloc::Global;
 use std::test::Fail;
-
-fn person(alloc: Global) -> Result<ClassDef, Memory> {
-    let cars = Ty::set_of(alloc, Ty::Class(Name::from_text(alloc, "Vehicle")?))?;
-    let mut attributes = Fields::new(alloc);
-    attributes.push((Name::from_text(alloc, "ssn")?, Ty::Str))?;
-    attributes.push((Name::from_text(alloc, "cars")?, cars))?;
-    let mut key = Names::new(alloc);
-    key.push(Name::from_text(alloc, "ssn")?)?;
-    let mut keys = Keys::new(alloc);
-    keys.push(key)?;
-    Ok(ClassDef {
-        name: Name::from_text(alloc, "Person")?,
-        extent: Name::from_text(alloc, "Persons")?,
-        attributes,
-        keys,
-    })
-}
-
-fn vehicle(alloc: Global) -> Result<ClassDef, Memory> {
-    let mut attributes = Fields::new(alloc);
-    attributes.push((Name::from_text(alloc, "year")?, Ty::Int))?;
-    Ok(ClassDef {
-        name: Name::from_text(alloc, "Vehicle")?,
-        extent: Name::from_text(alloc, "Vehicles")?,
-        attributes,
-        keys: Keys::new(alloc),
-    })
-}
-
-fn schema_of(alloc: Global, classes: Vec<ClassDef>) -> Result<Option<Schema>, Memory> {
-    if !classes_ok(classes.as_slice()) {
-        return Ok(None);
-    }
-    let schema = Schema::make(alloc, classes)?;
-    Ok(Some(schema))
-}
 
 fn is_named(found: Option<&Name>, text: &str) -> bool {
     match found {
@@ -47,31 +12,100 @@ fn is_named(found: Option<&Name>, text: &str) -> bool {
     }
 }
 
+fn has_class(schema: &Schema, alloc: Global, extent: &str, class: &str) -> Result<bool, Memory> {
+    let extent = name(alloc, extent)?;
+    Ok(is_named(schema.class_of(&extent), class))
+}
+
+fn has_extent(schema: &Schema, alloc: Global, class: &str, extent: &str) -> Result<bool, Memory> {
+    let class = name(alloc, class)?;
+    Ok(is_named(schema.extent_of(&class), extent))
+}
+
+fn has_attribute(schema: &Schema, alloc: Global, class: &str, a: &str) -> Result<bool, Memory> {
+    let class = name(alloc, class)?;
+    let a = name(alloc, a)?;
+    Ok(schema.attribute(&class, &a).is_some())
+}
+
+fn has_key(schema: &Schema, alloc: Global, class: &str, n: usize) -> Result<bool, Memory> {
+    let class = name(alloc, class)?;
+    Ok(schema.key_of(&class, n).is_some())
+}
+
+// Whether an extent of the sample is of the class, and the class has the extent.
+fn are_joined(alloc: Global, class: &str, extent: &str) -> Result<bool, Memory> {
+    match schema(alloc)? {
+        Some(schema) => Ok(
+            has_class(&schema, alloc, extent, class)? && has_extent(&schema, alloc, class, extent)?,
+        ),
+        None => Ok(false),
+    }
+}
+
+fn is_attribute(alloc: Global, class: &str, a: &str) -> Result<bool, Memory> {
+    match schema(alloc)? {
+        Some(schema) => has_attribute(&schema, alloc, class, a),
+        None => Ok(false),
+    }
+}
+
+fn is_key(alloc: Global, class: &str, n: usize) -> Result<bool, Memory> {
+    match schema(alloc)? {
+        Some(schema) => has_key(&schema, alloc, class, n),
+        None => Ok(false),
+    }
+}
+
+fn no_class_is_there(alloc: Global) -> Result<bool, Memory> {
+    let schema = Schema::make(alloc, Vec::new(alloc))?;
+    Ok(schema.class_at(0).is_none())
+}
+
 #[test]
 fn a_schema_of_no_class(rt: HostRuntime) -> Result<(), Fail> {
-    let alloc = rt.alloc();
-    let schema = Schema::make(alloc, Vec::new(alloc))?;
-    assert!(rt; schema.class_at(0).is_none());
+    assert!(rt; no_class_is_there(rt.alloc())?);
     Ok(())
 }
 
 #[test]
-fn persons_and_vehicles(rt: HostRuntime) -> Result<(), Fail> {
-    let alloc = rt.alloc();
-    let mut classes = Vec::new(alloc);
-    classes.push(person(alloc)?)?;
-    classes.push(vehicle(alloc)?)?;
-    let made = schema_of(alloc, classes)?;
-    let Some(schema) = made else {
-        assert!(rt; false);
-        return Ok(());
-    };
-    let class = Name::from_text(alloc, "Vehicle")?;
-    let extent = Name::from_text(alloc, "Persons")?;
-    let year = Name::from_text(alloc, "year")?;
-    assert!(rt; is_named(schema.class_of(&extent), "Person"));
-    assert!(rt; is_named(schema.extent_of(&class), "Vehicles"));
-    assert!(rt; schema.attribute(&class, &year).is_some());
-    assert!(rt; schema.key_of(&class, 0).is_none());
+fn classes_and_extents(rt: HostRuntime) -> Result<(), Fail> {
+    for (class, extent, wanted) in [
+        ("Person", "Persons", true),
+        ("Vehicle", "Vehicles", true),
+        ("Vehicle", "Persons", false),
+        ("Boat", "Boats", false),
+    ] {
+        let found = are_joined(rt.alloc(), class, extent)?;
+        assert_eq!(rt; found, wanted);
+    }
+    Ok(())
+}
+
+#[test]
+fn attributes_of_classes(rt: HostRuntime) -> Result<(), Fail> {
+    for (class, a, wanted) in [
+        ("Person", "cars", true),
+        ("Vehicle", "year", true),
+        ("Vehicle", "cars", false),
+        ("Boat", "year", false),
+    ] {
+        let found = is_attribute(rt.alloc(), class, a)?;
+        assert_eq!(rt; found, wanted);
+    }
+    Ok(())
+}
+
+#[test]
+fn keys_of_classes(rt: HostRuntime) -> Result<(), Fail> {
+    for (class, n, wanted) in [
+        ("Person", 0, true),
+        ("Person", 1, true),
+        ("Person", 2, false),
+        ("Vehicle", 0, false),
+    ] {
+        let found = is_key(rt.alloc(), class, n)?;
+        assert_eq!(rt; found, wanted);
+    }
     Ok(())
 }

@@ -1,5 +1,5 @@
 //! Databases made with ample memory, and their look-ups.
-use crate::samples::{name, objects, reference, schema};
+use crate::tests::samples::{name, objects, reference, schema};
 use crate::{Db, ObjectDef, Set, Value};
 use kola_core::Memory;
 use std::alloc::Global;

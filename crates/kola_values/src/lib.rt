@@ -47,8 +47,6 @@ mod encoding_tests;
 #[cfg(test)]
 mod meets_tests;
 #[cfg(test)]
-mod samples;
-#[cfg(test)]
 mod schema_tests;
 #[cfg(test)]
 mod tests;

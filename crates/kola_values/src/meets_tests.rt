@@ -1,5 +1,7 @@
 //! The test of objects against a schema: persons with their cars, and other lists of which each has one fault.
-use crate::samples::{name, object, objects, person, push_value, reference, schema, vehicle};
+use crate::tests::samples::{
+    name, object, objects, person, push_value, reference, schema, vehicle,
+};
 use crate::{Db, ObjectDef, ObjectsRefused, Ty, Value, ValueFields, objects_ok, shaped};
 use kola_core::Memory;
 use std::alloc::Global;

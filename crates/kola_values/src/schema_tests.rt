@@ -1,6 +1,6 @@
 //! Schemas made with ample memory, and their look-ups.
 use crate::Schema;
-use crate::samples::{name, schema};
+use crate::tests::samples::{name, schema};
 use kola_core::{Memory, Name};
 use std::alloc::Global;
 use std::test::Fail;

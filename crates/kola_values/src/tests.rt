@@ -1,4 +1,6 @@
 //! Each call that takes memory, with ample memory.
+pub(crate) mod samples;
+
 use crate::{Fields, Set, Ty, Value, ValueFields, type_text, value_text};
 use kola_core::{Memory, Name, Text};
 use std::alloc::Global;

@@ -55,11 +55,11 @@ chain_goes f grow n a [] l r h = absurd cc
 chain_goes f grow n a (t ∷ ts) l r h = goes_at f grow n a t ts (f a t) l r refl h
 
 -- the same for a fault that the code answers
-pub chain_stops : {T A L : Type 0} (e : Stop T) (f : A → T → Move T L) (grow : A → L → A) (n : ℕ) (a : A) (ts : List T) → Fails e (link_at (f a) n ts) → Fails e (chain f grow n a ts)
+pub chain_stops : {T A L : Type 0} (e : Stop (List T)) (f : A → T → Move T L) (grow : A → L → A) (n : ℕ) (a : A) (ts : List T) → Fails e (link_at (f a) n ts) → Fails e (chain f grow n a ts)
 chain_stops Memory f grow n a ts h = tt
-chain_stops (Before y r) f grow n a ts h = chain_fails f grow n a ts (fault y r.now) h
+chain_stops (Before y r) f grow n a ts h = chain_fails f grow n a ts (fault y r) h
 
-pub Fails-along : {T Y : Type 0} (e : Stop T) (x y : Result Y (Fault T)) → x ≡ y → Fails e x → Fails e y
+pub Fails-along : {T Y : Type 0} (e : Stop (List T)) (x y : Result Y (Fault T)) → x ≡ y → Fails e x → Fails e y
 Fails-along Memory x y i h = tt
 Fails-along (Before w r) x y i h = sym i ∙ h
 

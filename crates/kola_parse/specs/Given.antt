@@ -6,15 +6,15 @@ use Rattle.kola_parse.specs.declared.stop.Stop.TheVariants.{Memory, Before}
 use Rattle.kola_parse.specs.Reader.{Fault, fault}
 
 -- What a function returned, seen by view, is what reading gives, unless memory ran out.
-abbrev pub Fails : {T Y : Type 0} → Stop T → Result Y (Fault T) → Type 0
+abbrev pub Fails : {T Y : Type 0} → Stop (List T) → Result Y (Fault T) → Type 0
 Fails Memory read = Unit {0}
-Fails (Before why rest) read = read ≡ Err (fault why rest.now)
+Fails (Before why rest) read = read ≡ Err (fault why rest)
 
-abbrev pub Gives : {T X Y : Type 0} → (X → Y) → Result X (Stop T) → Result Y (Fault T) → Type 0
+abbrev pub Gives : {T X Y : Type 0} → (X → Y) → Result X (Stop (List T)) → Result Y (Fault T) → Type 0
 Gives view (Ok x) read = read ≡ Ok (view x)
 Gives view (Err e) read = Fails e read
 
 -- it stopped before these tokens, since they go too deep
-abbrev pub StoppedDeep : {T : Type 0} → Stop T → List T → Type 0
+abbrev pub StoppedDeep : {T : Type 0} → Stop (List T) → List T → Type 0
 StoppedDeep Memory ts = ⊥
-StoppedDeep (Before why rest) ts = (why ≡ TooDeep) × (rest.now ≡ ts)
+StoppedDeep (Before why rest) ts = (why ≡ TooDeep) × (rest ≡ ts)

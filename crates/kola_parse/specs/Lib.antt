@@ -4,3 +4,4 @@ pub mod Texts
 pub mod Reading
 pub mod Moves
 pub mod Given
+pub mod Kinds

@@ -6,16 +6,16 @@ ghost use Rattle.kola_parse.specs.declared.stop.Stop.TheVariants.{Memory};
 use crate::why::Why;
 use std::alloc::{AllocError, AllocFailed};
 
-/// Why a reader of the code stopped, and where: before the tokens from the one that it did not take.
+/// Why a reader of the code stopped, and where: before the rest of the text, from the token that it did not take.
 #[derive(Drop)]
-pub enum Stop<'a, T> {
+pub enum Stop<R> {
     /// Memory was wanted.
     Memory,
-    /// The tokens from the one that was not taken.
-    Before(Why, &'a [T]),
+    /// The cause, and the rest from the token that was not taken.
+    Before(Why, R),
 }
 
-impl<T> From<AllocError> for Stop<'_, T> {
+impl<R> From<AllocError> for Stop<R> {
     ghost from_gives = { λ _ e. e ≡ Memory };
 
     fn from(_e: AllocError) -> Self {
@@ -23,7 +23,7 @@ impl<T> From<AllocError> for Stop<'_, T> {
     }
 }
 
-impl<T, X: Drop> From<AllocFailed<X>> for Stop<'_, T> {
+impl<R, X: Drop> From<AllocFailed<X>> for Stop<R> {
     ghost from_gives = { λ _ e. e ≡ Memory };
 
     fn from(_e: AllocFailed<X>) -> Self {

@@ -150,3 +150,55 @@ impl<'a> Lexemes<'a> {
         self.left.len() - 1
     }
 }
+
+#[cfg(test)]
+mod tests {
+    use super::*;
+    use crate::lex::{LexFault, tokens};
+
+    /// What a lexeme is to say, with the text of a string.
+    #[derive(Clone, Copy)]
+    enum Want {
+        Word(&'static str),
+        Number(i64),
+        Quoted(&'static str),
+        Sign(&'static [u8]),
+    }
+
+    fn says(alloc: Global, lexeme: &Lexeme<'_>, want: Want) -> Result<bool, Memory> {
+        match (lexeme, want) {
+            (Lexeme::Word(word), Want::Word(text)) => Ok(*word == text),
+            (Lexeme::Number(number), Want::Number(value)) => Ok(*number == value),
+            (Lexeme::Sign(sign), Want::Sign(bytes)) => Ok(*sign == bytes),
+            (Lexeme::Quoted(quote), Want::Quoted(text)) => {
+                Ok(quote.to_text(alloc)?.as_text() == text)
+            }
+            _ => Ok(false),
+        }
+    }
+
+    #[test]
+    fn walks_over_a_text(rt: HostRuntime) -> Result<(), LexFault> {
+        let text = b"x <= \"a\\u{41}\\n\" -5";
+        let shown = [
+            (0, Want::Word("x")),
+            (2, Want::Sign(b"<=")),
+            (5, Want::Quoted("aA\n")),
+            (17, Want::Number(-5)),
+        ];
+        let found = tokens(rt.alloc(), text)?;
+        assert_eq!(rt; found.len(), shown.len() + 1);
+        let mut left = Lexemes::from_token(text, &found, 0);
+        assert_eq!(rt; left.len(), shown.len());
+        for (at, want) in shown {
+            assert_eq!(rt; left.place(text.len()), at);
+            let (first, rest) = left.split().expect(&rt, "a lexeme");
+            assert_eq!(rt; first.at, at);
+            assert!(rt; says(rt.alloc(), &first.says, want)?);
+            left = rest;
+        }
+        assert_eq!(rt; left.place(text.len()), 19);
+        assert!(rt; left.split().is_none());
+        Ok(())
+    }
+}

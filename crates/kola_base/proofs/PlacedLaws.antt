@@ -90,5 +90,9 @@ placed_drop n ts text a l = left_placed_drop n ts text l (all_left ts text a).en
 pub placed_length : (ts : List Token) (text : List ℕ) → AreTokens ts text → length (placed text ts) + 1 ≡ length ts
 placed_length ts text a = left_length ts text (all_left ts text a).ends
 
+-- there is the end at least
+pub tokens_some : (ts : List Token) (text : List ℕ) → AreTokens ts text → 0 < length ts
+tokens_some ts text a = let e = placed_length ts text a in omega (arith, e)
+
 pub placed_says : (ts : List Token) (text : List ℕ) → AreTokens ts text → map (λ p. p.says) (placed text ts) ≡ lexemes text ts
 placed_says ts text a = left_says ts text (all_left ts text a).ends

@@ -1,4 +1,4 @@
--- What a lexeme of the program says.
+-- What the program's lexemes say, and where they stand.
 use Rattle.kola_base.specs.declared.lexeme.Lexeme as lexeme
 use Rattle.kola_base.specs.declared.lexeme.Lexeme.TheVariants.{Word, Number, Quoted, Sign}
 use Rattle.kola_base.specs.declared.lexeme.Placed as place

@@ -33,7 +33,7 @@ impl<'a> Model for Quote<'a> {
 }
 
 impl Quote<'_> {
-    /// The text that the string writes.
+    /// The text that the string writes, its escapes read. Only want of memory is refused.
     pub fn to_text(&self, alloc: Global) -> Result<Text, Memory>
         ensures { IfOk result (λ t. t ≡ self.now) }
     {
@@ -46,13 +46,17 @@ impl Quote<'_> {
 /// What a token says.
 #[derive(Drop)]
 pub enum Lexeme<'a> {
+    /// A word as it stands.
     Word(&'a str),
+    /// The integer that a number writes.
     Number(i64),
+    /// A string, by the text that it writes.
     Quoted(Quote<'a>),
+    /// The bytes of a sign.
     Sign(&'a [u8]),
 }
 
-/// What a token says, and the place of its first byte in the text.
+/// What a token says, and the place of its first byte in the text, counted in bytes from 0.
 #[derive(Drop)]
 pub struct Placed<'a> {
     pub says: Lexeme<'a>,
@@ -102,7 +106,7 @@ fn lexeme_of<'a>(text: &'a [u8], token: &Token) -> Option<Lexeme<'a>>
 }
 
 impl<'a> Lexemes<'a> {
-    /// What the tokens of a text say from one of them on.
+    /// What the tokens of a text say from the one of this index on, which may be the end.
     pub fn from_token(text: &'a [u8], tokens: &'a [Token], from: usize) -> Lexemes<'a>
         requires tokens { AreTokens tokens.now text.now }
         requires within { from < length tokens.now }

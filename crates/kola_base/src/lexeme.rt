@@ -1,6 +1,6 @@
 //! What tokens say, read one by one.
 
-ghost use Rattle.std.specs.Prelude.{◌≡◌, [], ◌∷◌, ◌<◌, List, ℕ, None, true, drop, length, IfSome, IfNone, IfOk};
+ghost use Rattle.std.specs.Prelude.{◌≡◌, [], ◌∷◌, ◌<◌, List, ℕ, true, drop, length, IfSome, IfNone, IfOk};
 ghost use Rattle.kola_base.specs.declared.scan.Sort.TheVariants as sorts;
 ghost use Rattle.kola_base.specs.Pieces.{piece};
 ghost use Rattle.kola_base.specs.Lexemes.{lexeme_of};

@@ -5,7 +5,7 @@ use Rattle.kola_base.specs.declared.lex.Kind.{Kind}
 use Rattle.kola_base.specs.declared.lex.Kind.TheVariants as kinds
 use Rattle.kola_base.specs.declared.lex.Token.{Token}
 use Rattle.kola_base.specs.Tokens.{AreTokens, Behind, InOrder, IsTokenIn, bytes_of}
-use Rattle.kola_base.specs.Lexemes.{Lexeme, lexeme, lexeme_of, lexemes}
+use Rattle.kola_base.specs.Lexemes.{lexeme, lexemes}
 use Rattle.kola_base.specs.Placed.{Placed, said_first, placed, EndsLast, AreLeft}
 use Rattle.kola_base.proofs.Spans.{all_in, in_order}
 
@@ -33,14 +33,6 @@ all_left ts text a = record { stand = all_in ts text a; ends = ends_last 0 ts (i
 
 pub left_drop : (n : ℕ) (ts : List Token) (text : List ℕ) → n < length ts → AreLeft text ts → AreLeft text (drop n ts)
 left_drop n ts text l a = record { stand = All-drop (IsTokenIn text) n ts a.stand; ends = ends_drop n ts l a.ends }
-
-says_next : (k : Kind) (bs : List ℕ) (l : Lexeme) (ts : List Token) → lexeme k bs ≡ l ∷ [] → Behind k ts (EndsLast ts) → EndsLast ts
-says_next kinds.End bs l ts e h = absurd cc
-says_next _ bs l ts e h = h
-
--- behind a token that says something
-pub left_next : (t : Token) (ts : List Token) (text : List ℕ) (l : Lexeme) → lexeme_of text t ≡ l ∷ [] → AreLeft text (t ∷ ts) → AreLeft text ts
-left_next t ts text l e a = record { stand = All-drop (IsTokenIn text) 1 (t ∷ ts) a.stand; ends = says_next t.kind (bytes_of text t) l ts e a.ends }
 
 -- ---- what they say
 

@@ -30,7 +30,7 @@ found_at p cs false k true i e go = go e
 found_at p cs false k false i e go = go e
 
 -- where the class of a byte passes, so does one of its tests
-found : (p : Class → Bool) (cs : List (Bool × Class)) → p Other ≡ false → p (first_class cs) ≡ true → Some p cs ≡ true
+pub found : (p : Class → Bool) (cs : List (Bool × Class)) → p Other ≡ false → p (first_class cs) ≡ true → Some p cs ≡ true
 found p [] f e = absurd (let x : true ≡ false = sym e ∙ f in cc)
 found p (c ∷ cs) f e = found_at p cs c.0 c.1 (p c.1) refl e (found p cs f)
 

@@ -15,7 +15,8 @@ use Rattle.kola_base.specs.Strings.{escape, string_value, string_fault}
 use Rattle.kola_base.specs.Numbers.{number_value}
 use Rattle.kola_core.specs.Integers.{in_64}
 use Rattle.kola_base.specs.Tokens.{tokens_of, end_at}
-use Rattle.kola_base.specs.Lexemes.{LWord, LNumber, LSign, lexemes}
+use Rattle.kola_base.specs.Lexemes.{LWord, LNumber, LString, LSign, lexemes}
+use Rattle.kola_base.specs.Placed.{placed, place}
 
 classes : map class (codes "_a9 -/<>=!|.") ≡ Letter ∷ Letter ∷ Digit ∷ Blank ∷ Minus ∷ Slash ∷ Less ∷ Greater ∷ Equal ∷ Bang ∷ Bar ∷ Single ∷ []
 classes = refl
@@ -88,3 +89,12 @@ cut = refl
 
 said : lexemes (codes "x<=-5 // end") (record { kind = kinds.Word; from = 0; to = 1 } ∷ record { kind = kinds.Sign; from = 1; to = 3 } ∷ record { kind = kinds.Number; from = 3; to = 5 } ∷ end_at 12 ∷ []) ≡ LWord (codes "x") ∷ LSign (codes "<=") ∷ LNumber (negsuc 4) ∷ []
 said = refl
+
+-- x "\n"
+said_in_place : placed (120 ∷ 32 ∷ 34 ∷ 92 ∷ 110 ∷ 34 ∷ []) (record { kind = kinds.Word; from = 0; to = 1 } ∷ record { kind = kinds.Quoted; from = 2; to = 6 } ∷ end_at 6 ∷ []) ≡ record { says = LWord (120 ∷ []); at = 0 } ∷ record { says = LString (10 ∷ []); at = 2 } ∷ []
+unfolding encode_utf8
+said_in_place = refl
+
+-- the place of the first, and behind the last one that of the end
+places : (place 6 (record { says = LSign (codes "<="); at = 2 } ∷ []) ≡ 2) × (place 6 (placed (codes "x") (end_at 1 ∷ [])) ≡ 6)
+places = (refl, refl)

@@ -9,3 +9,6 @@ pub mod Spans
 pub mod Total
 mod Examples
 pub mod Escapes
+pub mod Writes
+pub mod Words
+pub mod PlacedLaws

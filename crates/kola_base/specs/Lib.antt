@@ -8,3 +8,5 @@ pub mod Numbers
 pub mod Strings
 pub mod Tokens
 pub mod Lexemes
+pub mod Placed
+pub mod LexemeViews

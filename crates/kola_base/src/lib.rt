@@ -3,6 +3,7 @@
 
 mod class;
 mod lex;
+mod lexeme;
 mod mem_sink;
 mod mem_source;
 mod number;
@@ -17,6 +18,7 @@ mod strings;
 mod writing;
 
 pub use lex::{Kind, LexFault, LexWhy, Token, lexed_once, tokens};
+pub use lexeme::{Lexeme, Lexemes, Placed, Quote};
 pub use mem_sink::{CountSink, MemSink};
 pub use mem_source::{MemSource, SteadySource};
 pub use number::number_of;

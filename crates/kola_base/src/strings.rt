@@ -5,6 +5,7 @@ ghost use Rattle.std.specs.Result.{result_err};
 ghost use Rattle.std.specs.List.{list_all, prefix_len};
 ghost use Rattle.std.specs.Option.{option_map};
 ghost use Rattle.std.specs.Char.{encode_utf8, digit_value};
+ghost use Rattle.std.specs.Str.{IsUtf8};
 ghost use Rattle.std.specs.Str.Lossy.{utf8_valid_len};
 ghost use Rattle.kola_base.specs.Strings.{is_hex, hexadecimal, begins_with, character, named, simple_escape, escape, front, written, behind, bytes_written, content_fault, string_fault, string_value};
 ghost use Rattle.kola_base.specs.declared.lex.Kind.TheVariants as kinds;
@@ -207,14 +208,24 @@ fn written(alloc: Global, content: &[u8]) -> Result<Vec<u8>, AllocError>
     Ok(out)
 }
 
+/// The bytes that a string without a fault writes.
+pub fn string_of(alloc: Global, string: &[u8]) -> Result<Vec<u8>, AllocError>
+    requires quotes { 2 ≤ length string.now }
+    requires sound { string_fault string.now ≡ None }
+    ensures is { IfOk result (λ v. v.items ≡ string_value string.now) }
+    ensures utf8 { IfOk result (λ v. IsUtf8 v.items) }
+{
+    written(alloc, &string[1..string.len() - 1])
+}
+
 /// The bytes that a string token of the text writes, its escapes read.
 ///
 /// Each token that `tokens` answers for the text stands in it as the second condition says.
 pub fn quoted_of(alloc: Global, text: &[u8], token: &Token) -> Result<Vec<u8>, AllocError>
     requires quoted { token.now.kind ≡ kinds.Quoted }
     requires in_text { IsTokenIn text.now token.now }
-    ensures { IfOk result (λ v. v.items ≡ string_value (bytes_of text.now token.now)) }
+    ensures is { IfOk result (λ v. v.items ≡ string_value (bytes_of text.now token.now)) }
+    ensures utf8 { IfOk result (λ v. IsUtf8 v.items) }
 {
-    let string = &text[token.from..token.to];
-    written(alloc, &string[1..string.len() - 1])
+    string_of(alloc, &text[token.from..token.to])
 }

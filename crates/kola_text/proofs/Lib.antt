@@ -1,1 +1,3 @@
 mod Examples
+pub mod Symbols
+pub mod ConstLaws

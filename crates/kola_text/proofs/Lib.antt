@@ -1,3 +1,4 @@
 mod Examples
 pub mod Symbols
 pub mod ConstLaws
+pub mod TermLaws

@@ -2,3 +2,4 @@ mod Examples
 pub mod Symbols
 pub mod ConstLaws
 pub mod TermLaws
+pub mod PartLaws

@@ -12,7 +12,7 @@ use Rattle.kola_values.specs.Databases.{look_up}
 use Rattle.kola_term.specs.Typing.{MetaTree, MFun, MPred, MConst}
 use Rattle.kola_term.specs.Terms.{ConstTree, FunTree, FId, FFst, FSnd, FFlat, FUnion, FIsect, FMinus, FAttr, FComp, FPair, FTimes, FK, FC, FIf, FIterate, FIter, FJoin, FNest, FUnnest, FMeta, PredTree, PEq, PLt, PLe, PMember, PAt, PAnd, POr, PNot, PInv, PKP, PCP, PEx, PFa, PMeta, TermTree, TermF, TermP, TermC}
 use Rattle.kola_text.specs.declared.alphabet.Sign.TheVariants.{Open, Close, Less, Dot, At, And, Or, Not, Star}
-use Rattle.kola_text.specs.declared.alphabet.Word.TheVariants as w
+use Rattle.kola_text.specs.declared.alphabet.Word.TheVariants as word
 use Rattle.kola_text.specs.Alphabet.{Kind, KSign, KWord, KName, KNumber, KString, KOther}
 use Rattle.kola_text.specs.Scopes.{Scope, Declared, Fresh, is_fun, is_pred, names_fun, names_pred, behind_name, behind_fun, behind_pred, is_fresh}
 use Rattle.kola_text.specs.Grammar.{kind, ◌▸◌, NameText, FunText, PredText}
@@ -74,16 +74,16 @@ merge_pred On (Goes p) Deep F F' G G' f f' h = absurd h
 merge_pred On (Goes p) (Goes q) F F' G G' f f' h = good_as (to_pred_sum F G f) (from_pred_sum F G f) (to_pred_sum F' G' f') (from_pred_sum F' G' f') (made_good TermP never h)
 
 -- what is made of the value of a move
-lift_good : {A B On : Type 0} (f : A → B) (m n : Move Placed A) (F G : Lang Placed A) → MoveGood On m n F G never → MoveGood On (lift f m) (lift f n) (Made f F) (Made f G) never
-lift_good f Stray Stray F G h = (λ x w k. h.0 k.part w k.spells, λ x w k. h.1 k.part w k.spells)
-lift_good f Stray Deep F G h = absurd h
-lift_good f Stray (Goes q) F G h = absurd h
-lift_good f Deep Stray F G h = absurd h
-lift_good f Deep Deep F G h = (λ x w k. h.0 k.part w k.spells, λ x w k. h.1 k.part w k.spells, h.2)
-lift_good f Deep (Goes q) F G h = (λ x w k. h.0 k.part w k.spells, made_reads f q G never h.1)
-lift_good f (Goes p) Stray F G h = absurd h
-lift_good f (Goes p) Deep F G h = absurd h
-lift_good f (Goes p) (Goes q) F G h = made_good f never h
+lift_good : {A B : Type 0} (On : Type 0) (f : A → B) (m n : Move Placed A) (F G : Lang Placed A) → MoveGood On m n F G never → MoveGood On (lift f m) (lift f n) (Made f F) (Made f G) never
+lift_good On f Stray Stray F G h = (λ x w k. h.0 k.part w k.spells, λ x w k. h.1 k.part w k.spells)
+lift_good On f Stray Deep F G h = absurd h
+lift_good On f Stray (Goes q) F G h = absurd h
+lift_good On f Deep Stray F G h = absurd h
+lift_good On f Deep Deep F G h = (λ x w k. h.0 k.part w k.spells, λ x w k. h.1 k.part w k.spells, h.2)
+lift_good On f Deep (Goes q) F G h = (λ x w k. h.0 k.part w k.spells, made_reads f q G never h.1)
+lift_good On f (Goes p) Stray F G h = absurd h
+lift_good On f (Goes p) Deep F G h = absurd h
+lift_good On f (Goes p) (Goes q) F G h = made_good f never h
 
 -- ---- what stands behind the first operand in parentheses
 
@@ -104,21 +104,19 @@ no_made : {A B : Type 0} (f : A → B) → NoText (Made {T = Placed} f (λ x w. 
 no_made f x w h = h.spells
 
 name_tail_each : {On : Type 0} {i j : Inner} {d e : ℕ} (s : Scope) (n : List ℕ) → Level On i j d e → (k : Kind) → MoveGood On (name_tail_move s i n k) (name_tail_move s j n k) (NameTailRest s d n k) (NameTailRest s e n k) never
-name_tail_each {On} {i} {j} {d} {e} s n l (KWord w.O) = merge_fun On (lift (λ x. with_fun (FMeta n) x) (fun_tail_move s i (KWord w.O))) (lift (λ x. with_fun (FMeta n) x) (fun_tail_move s j (KWord w.O))) _ _ _ _ (lift_good (λ x. with_fun (FMeta n) x) (fun_tail_move s i (KWord w.O)) (fun_tail_move s j (KWord w.O)) _ _ (fun_tail_each s l (KWord w.O))) (no_made (λ x. with_pred (PMeta n) x)) (no_made (λ x. with_pred (PMeta n) x))
-name_tail_each {On} {i} {j} {d} {e} s n l (KSign Star) = merge_fun On (lift (λ x. with_fun (FMeta n) x) (fun_tail_move s i (KSign Star))) (lift (λ x. with_fun (FMeta n) x) (fun_tail_move s j (KSign Star))) _ _ _ _ (lift_good (λ x. with_fun (FMeta n) x) (fun_tail_move s i (KSign Star)) (fun_tail_move s j (KSign Star)) _ _ (fun_tail_each s l (KSign Star))) (no_made (λ x. with_pred (PMeta n) x)) (no_made (λ x. with_pred (PMeta n) x))
-name_tail_each {On} {i} {j} {d} {e} s n l (KSign At) = merge_pred On (lift (λ x. with_pred (PMeta n) x) (pred_tail_move s i (KSign At))) (lift (λ x. with_pred (PMeta n) x) (pred_tail_move s j (KSign At))) _ _ _ _ (no_made (λ x. with_fun (FMeta n) x)) (no_made (λ x. with_fun (FMeta n) x)) (lift_good (λ x. with_pred (PMeta n) x) (pred_tail_move s i (KSign At)) (pred_tail_move s j (KSign At)) _ _ (pred_tail_each s l (KSign At)))
-name_tail_each {On} {i} {j} {d} {e} s n l (KSign And) = merge_pred On (lift (λ x. with_pred (PMeta n) x) (pred_tail_move s i (KSign And))) (lift (λ x. with_pred (PMeta n) x) (pred_tail_move s j (KSign And))) _ _ _ _ (no_made (λ x. with_fun (FMeta n) x)) (no_made (λ x. with_fun (FMeta n) x)) (lift_good (λ x. with_pred (PMeta n) x) (pred_tail_move s i (KSign And)) (pred_tail_move s j (KSign And)) _ _ (pred_tail_each s l (KSign And)))
-name_tail_each {On} {i} {j} {d} {e} s n l (KSign Or) = merge_pred On (lift (λ x. with_pred (PMeta n) x) (pred_tail_move s i (KSign Or))) (lift (λ x. with_pred (PMeta n) x) (pred_tail_move s j (KSign Or))) _ _ _ _ (no_made (λ x. with_fun (FMeta n) x)) (no_made (λ x. with_fun (FMeta n) x)) (lift_good (λ x. with_pred (PMeta n) x) (pred_tail_move s i (KSign Or)) (pred_tail_move s j (KSign Or)) _ _ (pred_tail_each s l (KSign Or)))
+name_tail_each {On} {i} {j} {d} {e} s n l (KWord word.O) = merge_fun On (lift (λ x. with_fun (FMeta n) x) (fun_tail_move s i (KWord word.O))) (lift (λ x. with_fun (FMeta n) x) (fun_tail_move s j (KWord word.O))) _ _ _ _ (lift_good On (λ x. with_fun (FMeta n) x) (fun_tail_move s i (KWord word.O)) (fun_tail_move s j (KWord word.O)) _ _ (fun_tail_each s l (KWord word.O))) (no_made (λ x. with_pred (PMeta n) x)) (no_made (λ x. with_pred (PMeta n) x))
+name_tail_each {On} {i} {j} {d} {e} s n l (KSign Star) = merge_fun On (lift (λ x. with_fun (FMeta n) x) (fun_tail_move s i (KSign Star))) (lift (λ x. with_fun (FMeta n) x) (fun_tail_move s j (KSign Star))) _ _ _ _ (lift_good On (λ x. with_fun (FMeta n) x) (fun_tail_move s i (KSign Star)) (fun_tail_move s j (KSign Star)) _ _ (fun_tail_each s l (KSign Star))) (no_made (λ x. with_pred (PMeta n) x)) (no_made (λ x. with_pred (PMeta n) x))
+name_tail_each {On} {i} {j} {d} {e} s n l (KSign At) = merge_pred On (lift (λ x. with_pred (PMeta n) x) (pred_tail_move s i (KSign At))) (lift (λ x. with_pred (PMeta n) x) (pred_tail_move s j (KSign At))) _ _ _ _ (no_made (λ x. with_fun (FMeta n) x)) (no_made (λ x. with_fun (FMeta n) x)) (lift_good On (λ x. with_pred (PMeta n) x) (pred_tail_move s i (KSign At)) (pred_tail_move s j (KSign At)) _ _ (pred_tail_each s l (KSign At)))
+name_tail_each {On} {i} {j} {d} {e} s n l (KSign And) = merge_pred On (lift (λ x. with_pred (PMeta n) x) (pred_tail_move s i (KSign And))) (lift (λ x. with_pred (PMeta n) x) (pred_tail_move s j (KSign And))) _ _ _ _ (no_made (λ x. with_fun (FMeta n) x)) (no_made (λ x. with_fun (FMeta n) x)) (lift_good On (λ x. with_pred (PMeta n) x) (pred_tail_move s i (KSign And)) (pred_tail_move s j (KSign And)) _ _ (pred_tail_each s l (KSign And)))
+name_tail_each {On} {i} {j} {d} {e} s n l (KSign Or) = merge_pred On (lift (λ x. with_pred (PMeta n) x) (pred_tail_move s i (KSign Or))) (lift (λ x. with_pred (PMeta n) x) (pred_tail_move s j (KSign Or))) _ _ _ _ (no_made (λ x. with_fun (FMeta n) x)) (no_made (λ x. with_fun (FMeta n) x)) (lift_good On (λ x. with_pred (PMeta n) x) (pred_tail_move s i (KSign Or)) (pred_tail_move s j (KSign Or)) _ _ (pred_tail_each s l (KSign Or)))
 name_tail_each s n l _ = (no_sum _ _ (no_made (λ x. with_fun (FMeta n) x)) (no_made (λ x. with_pred (PMeta n) x)), no_sum _ _ (no_made (λ x. with_fun (FMeta n) x)) (no_made (λ x. with_pred (PMeta n) x)))
 
-name_tail_some : (s : Scope) (d : ℕ) (n : List ℕ) → Inhabited (Led (λ t. NameTailRest s d n (kind t)))
-name_tail_some s d n = by tail.text tail.spells
-  where
-    tail = (fun_tail_heads s d).some
+led_name_tail : (s : Scope) (d : ℕ) (n : List ℕ) (x : FunTail) (w : List Placed) → FunTailText s d x w → Inhabited (Led (λ t. NameTailRest s d n (kind t)))
+led_name_tail s d n x [] h = absurd ((fun_tail_heads s d).empty x h)
+led_name_tail s d n x (t ∷ w) h = record { tree = TermF (with_fun (FMeta n) x); text = t ∷ w; spells = record { part = x; is = refl; spells = (fun_tail_heads s d).from x t w h } }
 
-    by : (w : List Placed) → FunTailText s d tail.tree w → Inhabited (Led (λ t. NameTailRest s d n (kind t)))
-    by [] h = absurd ((fun_tail_heads s d).empty tail.tree h)
-    by (t ∷ w) h = record { tree = TermF (with_fun (FMeta n) tail.tree); text = t ∷ w; spells = record { part = tail.tree; is = refl; spells = (fun_tail_heads s d).from tail.tree t w h } }
+name_tail_some : (s : Scope) (d : ℕ) (n : List ℕ) → Inhabited (Led (λ t. NameTailRest s d n (kind t)))
+name_tail_some s d n = let some = (fun_tail_heads s d).some in led_name_tail s d n some.tree some.text some.spells
 
 tail_by_good : {On : Type 0} {i j : Inner} {d e : ℕ} (o : Option (List ℕ)) (s : Scope) (f : FunTree) → Level On i j d e → Good On (part_tail_by o s i f) (part_tail_by o s j f) (TailBy o s d f) (TailBy o s e f) never
 tail_by_good {On} {i} {j} {d} {e} (Some n) s f l =
@@ -162,13 +160,13 @@ open_is (Fresh ns) _ n e = absurd cc
 -- ---- from the texts behind the first token
 
 name_opened : (s : Scope) (d : ℕ) (n : List ℕ) (f : FunTree) (y : TermTree) (t q : Placed) (u v w : List Placed) → OpenName n s f → kind t ≡ KSign Open → w ≡ u ++ q ∷ v → FunText s f d u → NameTailRest (behind_name s n) d n (kind q) y v → PartText s (suc d) y (t ∷ w)
-name_opened (Fresh ns) d n (FMeta n) (TermF g) t q u v w (a_name ns) e i h k =
+name_opened _ d n _ (TermF g) t q u v w (a_name ns) e i h k =
     let s = Fresh ns in
     subst (λ y. FunText s y (suc d) (t ∷ w)) (sym k.is) (with_fun_text s d (FMeta n) k.part t w e (record { front = u; back = q ∷ v; split = i; first = h; second = (fun_tail_heads (behind_name s n) d).to (kind q) k.part q v refl k.spells }))
-name_opened (Fresh ns) d n (FMeta n) (TermP g) t q u v w (a_name ns) e i h k =
+name_opened _ d n _ (TermP g) t q u v w (a_name ns) e i h k =
     let s = Fresh ns in
     subst (λ y. PartText s (suc d) (TermP y) (t ∷ w)) (sym k.is) (with_settled s (PMeta n) k.part, with_pred_text s d (PMeta n) k.part t w e (record { front = u; back = q ∷ v; split = i; first = h; second = (pred_tail_heads (behind_name s n) d).to (kind q) k.part q v refl k.spells }))
-name_opened (Fresh ns) d n (FMeta n) (TermC g) t q u v w (a_name ns) e i h k = absurd k
+name_opened _ d n _ (TermC g) t q u v w (a_name ns) e i h k = absurd k
 
 fun_opened : (s : Scope) (d : ℕ) (f : FunTree) (o : Option (List ℕ)) → open_name s f ≡ o → (y : TermTree) (t : Placed) (u v w : List Placed) → kind t ≡ KSign Open → w ≡ u ++ v → FunText s f d u → TailBy o s d f y v → PartText s (suc d) y (t ∷ w)
 fun_opened s d f (Some n) j y t u [] w e i h k = absurd k
@@ -190,36 +188,36 @@ part_to s (suc d) (KSign Open) x t w e h = part_opened s d h.mid x t h.front h.b
 part_to s n (KName m) (TermF f) t w e h = fun_to s n (KName m) f t w e (h.0, h.1)
 part_to s n (KName m) (TermP p) t w e h = (ap (settled s) h.2.0 ∙ name_settled s m h.0 h.1, pred_to s n (KName m) p t w e (h.1, h.2))
 part_to s n (KName m) (TermC c) t w e h = absurd h
-part_to s n (KWord w.Eq) (TermP p) t w e h = (ap (settled s) h.0, pred_to s n (KWord w.Eq) p t w e h)
-part_to s n (KWord w.Lt) (TermP p) t w e h = (ap (settled s) h.0, pred_to s n (KWord w.Lt) p t w e h)
-part_to s n (KWord w.Le) (TermP p) t w e h = (ap (settled s) h.0, pred_to s n (KWord w.Le) p t w e h)
-part_to s n (KWord w.In) (TermP p) t w e h = (ap (settled s) h.0, pred_to s n (KWord w.In) p t w e h)
-part_to s zero (KWord w.Inv) (TermP p) t w e h = absurd h
-part_to s (suc d) (KWord w.Inv) (TermP p) t w e h = (ap (settled s) h.is, pred_to s (suc d) (KWord w.Inv) p t w e h)
-part_to s n (KWord w.KP) (TermP p) t w e h = (ap (settled s) h.is, pred_to s n (KWord w.KP) p t w e h)
-part_to s zero (KWord w.CP) (TermP p) t w e h = absurd h
-part_to s (suc d) (KWord w.CP) (TermP p) t w e h = (ap (settled s) h.is, pred_to s (suc d) (KWord w.CP) p t w e h)
-part_to s zero (KWord w.Ex) (TermP p) t w e h = absurd h
-part_to s (suc d) (KWord w.Ex) (TermP p) t w e h = (ap (settled s) h.is, pred_to s (suc d) (KWord w.Ex) p t w e h)
-part_to s zero (KWord w.Fa) (TermP p) t w e h = absurd h
-part_to s (suc d) (KWord w.Fa) (TermP p) t w e h = (ap (settled s) h.is, pred_to s (suc d) (KWord w.Fa) p t w e h)
+part_to s n (KWord word.Eq) (TermP p) t w e h = (ap (settled s) h.0, pred_to s n (KWord word.Eq) p t w e h)
+part_to s n (KWord word.Lt) (TermP p) t w e h = (ap (settled s) h.0, pred_to s n (KWord word.Lt) p t w e h)
+part_to s n (KWord word.Le) (TermP p) t w e h = (ap (settled s) h.0, pred_to s n (KWord word.Le) p t w e h)
+part_to s n (KWord word.In) (TermP p) t w e h = (ap (settled s) h.0, pred_to s n (KWord word.In) p t w e h)
+part_to s zero (KWord word.Inv) (TermP p) t w e h = absurd h
+part_to s (suc d) (KWord word.Inv) (TermP p) t w e h = (ap (settled s) h.is, pred_to s (suc d) (KWord word.Inv) p t w e h)
+part_to s n (KWord word.KP) (TermP p) t w e h = (ap (settled s) h.is, pred_to s n (KWord word.KP) p t w e h)
+part_to s zero (KWord word.CP) (TermP p) t w e h = absurd h
+part_to s (suc d) (KWord word.CP) (TermP p) t w e h = (ap (settled s) h.is, pred_to s (suc d) (KWord word.CP) p t w e h)
+part_to s zero (KWord word.Ex) (TermP p) t w e h = absurd h
+part_to s (suc d) (KWord word.Ex) (TermP p) t w e h = (ap (settled s) h.is, pred_to s (suc d) (KWord word.Ex) p t w e h)
+part_to s zero (KWord word.Fa) (TermP p) t w e h = absurd h
+part_to s (suc d) (KWord word.Fa) (TermP p) t w e h = (ap (settled s) h.is, pred_to s (suc d) (KWord word.Fa) p t w e h)
 part_to s zero (KSign Not) (TermP p) t w e h = absurd h
 part_to s (suc d) (KSign Not) (TermP p) t w e h = (ap (settled s) h.is, pred_to s (suc d) (KSign Not) p t w e h)
-part_to s n (KWord w.Id) (TermF f) t w e h = fun_to s n (KWord w.Id) f t w e h
-part_to s n (KWord w.Fst) (TermF f) t w e h = fun_to s n (KWord w.Fst) f t w e h
-part_to s n (KWord w.Snd) (TermF f) t w e h = fun_to s n (KWord w.Snd) f t w e h
-part_to s n (KWord w.Flat) (TermF f) t w e h = fun_to s n (KWord w.Flat) f t w e h
-part_to s n (KWord w.Union) (TermF f) t w e h = fun_to s n (KWord w.Union) f t w e h
-part_to s n (KWord w.Isect) (TermF f) t w e h = fun_to s n (KWord w.Isect) f t w e h
-part_to s n (KWord w.Minus) (TermF f) t w e h = fun_to s n (KWord w.Minus) f t w e h
-part_to s n (KWord w.K) (TermF f) t w e h = fun_to s n (KWord w.K) f t w e h
-part_to s n (KWord w.C) (TermF f) t w e h = fun_to s n (KWord w.C) f t w e h
-part_to s n (KWord w.If) (TermF f) t w e h = fun_to s n (KWord w.If) f t w e h
-part_to s n (KWord w.Iterate) (TermF f) t w e h = fun_to s n (KWord w.Iterate) f t w e h
-part_to s n (KWord w.Iter) (TermF f) t w e h = fun_to s n (KWord w.Iter) f t w e h
-part_to s n (KWord w.Join) (TermF f) t w e h = fun_to s n (KWord w.Join) f t w e h
-part_to s n (KWord w.Nest) (TermF f) t w e h = fun_to s n (KWord w.Nest) f t w e h
-part_to s n (KWord w.Unnest) (TermF f) t w e h = fun_to s n (KWord w.Unnest) f t w e h
+part_to s n (KWord word.Id) (TermF f) t w e h = fun_to s n (KWord word.Id) f t w e h
+part_to s n (KWord word.Fst) (TermF f) t w e h = fun_to s n (KWord word.Fst) f t w e h
+part_to s n (KWord word.Snd) (TermF f) t w e h = fun_to s n (KWord word.Snd) f t w e h
+part_to s n (KWord word.Flat) (TermF f) t w e h = fun_to s n (KWord word.Flat) f t w e h
+part_to s n (KWord word.Union) (TermF f) t w e h = fun_to s n (KWord word.Union) f t w e h
+part_to s n (KWord word.Isect) (TermF f) t w e h = fun_to s n (KWord word.Isect) f t w e h
+part_to s n (KWord word.Minus) (TermF f) t w e h = fun_to s n (KWord word.Minus) f t w e h
+part_to s n (KWord word.K) (TermF f) t w e h = fun_to s n (KWord word.K) f t w e h
+part_to s n (KWord word.C) (TermF f) t w e h = fun_to s n (KWord word.C) f t w e h
+part_to s n (KWord word.If) (TermF f) t w e h = fun_to s n (KWord word.If) f t w e h
+part_to s n (KWord word.Iterate) (TermF f) t w e h = fun_to s n (KWord word.Iterate) f t w e h
+part_to s n (KWord word.Iter) (TermF f) t w e h = fun_to s n (KWord word.Iter) f t w e h
+part_to s n (KWord word.Join) (TermF f) t w e h = fun_to s n (KWord word.Join) f t w e h
+part_to s n (KWord word.Nest) (TermF f) t w e h = fun_to s n (KWord word.Nest) f t w e h
+part_to s n (KWord word.Unnest) (TermF f) t w e h = fun_to s n (KWord word.Unnest) f t w e h
 part_to s n (KSign Dot) (TermF f) t w e h = fun_to s n (KSign Dot) f t w e h
 part_to s n (KSign Less) (TermF f) t w e h = fun_to s n (KSign Less) f t w e h
 part_to s n _ (TermF f) t w e h = absurd h
@@ -284,7 +282,7 @@ part_empty s n (TermP p) h = pred_empty s n p h.1
 part_empty s n (TermC c) h = h
 
 pub part_heads : (s : Scope) (n : ℕ) → Heads kind (PartRest s n) (PartText s n)
-part_heads s n = record { to = part_to s n; from = part_from s n; empty = part_empty s n; some = record { tree = TermF FId; text = word_token w.Id ∷ []; spells = (word_is w.Id, tt) } }
+part_heads s n = record { to = part_to s n; from = part_from s n; empty = part_empty s n; some = record { tree = TermF FId; text = word_token word.Id ∷ []; spells = (word_is word.Id, tt) } }
 
 -- ---- each kind of first token
 
@@ -331,32 +329,32 @@ no_part (TermC c) w h = h
 pub part_each : {On : Type 0} {o o' : Option Inner} {n m : ℕ} → Inside Level On o o' n m → (s : Scope) (k : Kind) → MoveGood On (part_move s o k) (part_move s o' k) (PartRest s n k) (PartRest s m k) never
 part_each b s (KSign Open) = deeper_good b _ _ (λ On i j d e l. next_good (l.part s) (part_tail_good s l))
 part_each {On} b s (KName m) = name_part_each On (names_fun s m) (names_pred s m) m
-part_each b s (KWord w.Id) = fun_case b s (KWord w.Id)
-part_each b s (KWord w.Fst) = fun_case b s (KWord w.Fst)
-part_each b s (KWord w.Snd) = fun_case b s (KWord w.Snd)
-part_each b s (KWord w.Flat) = fun_case b s (KWord w.Flat)
-part_each b s (KWord w.Union) = fun_case b s (KWord w.Union)
-part_each b s (KWord w.Isect) = fun_case b s (KWord w.Isect)
-part_each b s (KWord w.Minus) = fun_case b s (KWord w.Minus)
-part_each b s (KWord w.K) = fun_case b s (KWord w.K)
-part_each b s (KWord w.C) = fun_case b s (KWord w.C)
-part_each b s (KWord w.If) = fun_case b s (KWord w.If)
-part_each b s (KWord w.Iterate) = fun_case b s (KWord w.Iterate)
-part_each b s (KWord w.Iter) = fun_case b s (KWord w.Iter)
-part_each b s (KWord w.Join) = fun_case b s (KWord w.Join)
-part_each b s (KWord w.Nest) = fun_case b s (KWord w.Nest)
-part_each b s (KWord w.Unnest) = fun_case b s (KWord w.Unnest)
+part_each b s (KWord word.Id) = fun_case b s (KWord word.Id)
+part_each b s (KWord word.Fst) = fun_case b s (KWord word.Fst)
+part_each b s (KWord word.Snd) = fun_case b s (KWord word.Snd)
+part_each b s (KWord word.Flat) = fun_case b s (KWord word.Flat)
+part_each b s (KWord word.Union) = fun_case b s (KWord word.Union)
+part_each b s (KWord word.Isect) = fun_case b s (KWord word.Isect)
+part_each b s (KWord word.Minus) = fun_case b s (KWord word.Minus)
+part_each b s (KWord word.K) = fun_case b s (KWord word.K)
+part_each b s (KWord word.C) = fun_case b s (KWord word.C)
+part_each b s (KWord word.If) = fun_case b s (KWord word.If)
+part_each b s (KWord word.Iterate) = fun_case b s (KWord word.Iterate)
+part_each b s (KWord word.Iter) = fun_case b s (KWord word.Iter)
+part_each b s (KWord word.Join) = fun_case b s (KWord word.Join)
+part_each b s (KWord word.Nest) = fun_case b s (KWord word.Nest)
+part_each b s (KWord word.Unnest) = fun_case b s (KWord word.Unnest)
 part_each b s (KSign Dot) = fun_case b s (KSign Dot)
 part_each b s (KSign Less) = fun_case b s (KSign Less)
-part_each b s (KWord w.Eq) = pred_case b s (KWord w.Eq)
-part_each b s (KWord w.Lt) = pred_case b s (KWord w.Lt)
-part_each b s (KWord w.Le) = pred_case b s (KWord w.Le)
-part_each b s (KWord w.In) = pred_case b s (KWord w.In)
-part_each b s (KWord w.Inv) = pred_case b s (KWord w.Inv)
-part_each b s (KWord w.KP) = pred_case b s (KWord w.KP)
-part_each b s (KWord w.CP) = pred_case b s (KWord w.CP)
-part_each b s (KWord w.Ex) = pred_case b s (KWord w.Ex)
-part_each b s (KWord w.Fa) = pred_case b s (KWord w.Fa)
+part_each b s (KWord word.Eq) = pred_case b s (KWord word.Eq)
+part_each b s (KWord word.Lt) = pred_case b s (KWord word.Lt)
+part_each b s (KWord word.Le) = pred_case b s (KWord word.Le)
+part_each b s (KWord word.In) = pred_case b s (KWord word.In)
+part_each b s (KWord word.Inv) = pred_case b s (KWord word.Inv)
+part_each b s (KWord word.KP) = pred_case b s (KWord word.KP)
+part_each b s (KWord word.CP) = pred_case b s (KWord word.CP)
+part_each b s (KWord word.Ex) = pred_case b s (KWord word.Ex)
+part_each b s (KWord word.Fa) = pred_case b s (KWord word.Fa)
 part_each b s (KSign Not) = pred_case b s (KSign Not)
 part_each b s _ = (no_part, no_part)
 

@@ -202,12 +202,12 @@ literals_good On =
 
 -- ---- constants
 
-abbrev NameRest : Bool → Bool → List ℕ → Lang Placed ConstTree
+abbrev pub NameRest : Bool → Bool → List ℕ → Lang Placed ConstTree
 NameRest true e n = Nothing (CMeta n)
 NameRest false true n = Nothing (CExtent n)
 NameRest false false n = λ x w. ⊥
 
-abbrev ConstRest : Scope → Kind → Lang Placed ConstTree
+abbrev pub ConstRest : Scope → Kind → Lang Placed ConstTree
 ConstRest s (KNumber z) = Nothing (CInt z)
 ConstRest s (KString b) = Nothing (CStr b)
 ConstRest s (KWord w.True) = Nothing (CBool true)
@@ -252,7 +252,7 @@ name_to s n true b p q x t w e h = subst (λ y. ConstText s y (t ∷ w)) (sym h.
 name_to s n false true p q x t w e h = subst (λ y. ConstText s y (t ∷ w)) (sym h.0) ((e, q), h.1)
 name_to s n false false p q x t w e h = absurd h
 
-const_heads : (s : Scope) → Heads kind (ConstRest s) (ConstText s)
+pub const_heads : (s : Scope) → Heads kind (ConstRest s) (ConstText s)
 const_heads s = record { to = to; from = from; empty = empty; some = record { tree = CStr []; text = alone (LString []); spells = (refl, tt) } }
   where
     to : (k : Kind) (x : ConstTree) (t : Placed) (w : List Placed) → kind t ≡ k → ConstRest s k x w → ConstText s x (t ∷ w)

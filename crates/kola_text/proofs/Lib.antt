@@ -3,3 +3,4 @@ pub mod Symbols
 pub mod ConstLaws
 pub mod TermLaws
 pub mod PartLaws
+pub mod WholeLaws

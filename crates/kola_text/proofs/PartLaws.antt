@@ -131,7 +131,7 @@ part_tail_good {On} s l (TermC c) = done_good On (TermC c)
 
 -- ---- the texts of a part behind its first token
 
-abbrev NamePart : Bool → Bool → List ℕ → Lang Placed TermTree
+abbrev pub NamePart : Bool → Bool → List ℕ → Lang Placed TermTree
 NamePart a b m (TermF f) w = (a ≡ true) × Nothing (FMeta m) f w
 NamePart a b m (TermP p) w = (a ≡ false) × (b ≡ true) × Nothing (PMeta m) p w
 NamePart a b m (TermC c) w = ⊥
@@ -360,7 +360,7 @@ part_each b s _ = (no_part, no_part)
 
 -- ---- all levels
 
-step_level : {On : Type 0} {o o' : Option Inner} {n m : ℕ} → Inside Level On o o' n m → Level On (step o) (step o') n m
+pub step_level : {On : Type 0} {o o' : Option Inner} {n m : ℕ} → Inside Level On o o' n m → Level On (step o) (step o') n m
 step_level {On} {o} {o'} {n} {m} b = record {
   fun = λ s. led_good kind On (fun_move s o) (fun_move s o') (FunRest s n) (FunRest s m) (λ x. FunText s x n) (λ x. FunText s x m) (fun_heads s n) (fun_heads s m) (fun_each b s);
   pred = λ s. led_good kind On (pred_move s o) (pred_move s o') (PredRest s n) (PredRest s m) (λ x. PredText s x n) (λ x. PredText s x m) (pred_heads s n) (pred_heads s m) (pred_each b s);

@@ -11,13 +11,13 @@ use Rattle.kola_parse.proofs.KindLaws.{Heads, led_good, Inside, bare, first, bot
 use Rattle.kola_values.specs.Databases.{look_up}
 use Rattle.kola_term.specs.Typing.{MetaTree, MFun, MPred, MConst, Context}
 use Rattle.kola_term.specs.Terms.{ConstTree, CInt, CBool, CStr, CSet, CExtent, CMeta, FunTree, FId, FMeta, PredTree, PEq, PMeta, TermTree, TermF, TermP, TermC}
-use Rattle.kola_text.specs.declared.alphabet.Sign.TheVariants.{LeftBrace}
+use Rattle.kola_text.specs.declared.alphabet.Sign.TheVariants.{LeftBrace, Open}
 use Rattle.kola_text.specs.declared.alphabet.Word.TheVariants as word
 use Rattle.kola_text.specs.Alphabet.{Kind, KSign, KWord, KName, KNumber, KString, KOther}
 use Rattle.kola_text.specs.Scopes.{Scope, Declared, Fresh, is_fun, is_pred, is_const, names_fun, names_pred, names_const, names_extent}
 use Rattle.kola_text.specs.Grammar.{kind, NameText, literal_of, ConstText, FunText, PredText, names_none, TermText, PatternText}
 use Rattle.kola_text.specs.TermReaders.{Inner, const_move, part_move, step, below, readers, variable, merge_const, term_move, term_at, pattern_move, pattern_at}
-use Rattle.kola_text.proofs.Symbols.{word_token, word_is}
+use Rattle.kola_text.proofs.Symbols.{word_token, word_is, sign_token, sign_is}
 use Rattle.kola_text.proofs.ConstLaws.{NameRest, ConstRest, const_heads, const_each}
 use Rattle.kola_text.proofs.TermLaws.{settled, PartText, Level}
 use Rattle.kola_text.proofs.PartLaws.{Sum, NamePart, PartRest, part_heads, part_each, step_level, levels}
@@ -271,3 +271,31 @@ or_const On Deep (Goes q) F F' G G' f f' h = (no_or F G f h.0, reads_as (to_cons
 or_const On (Goes p) Stray F F' G G' f f' h = absurd h
 or_const On (Goes p) Deep F F' G G' f f' h = absurd h
 or_const On (Goes p) (Goes q) F F' G G' f f' h = good_as (to_const_or F G) (from_const_or F G f) (to_const_or F' G') (from_const_or F' G' f') (made_good TermC never h)
+
+no_const : (s : Scope) (n : ℕ) (k : Kind) → NoConst (PartRest s n k)
+no_const s n (KSign Open) c w h = (part_heads s n).to (KSign Open) (TermC c) (sign_token Open) w (sign_is Open) h
+no_const s n (KName m) c w h = h
+no_const s n _ c w h = h
+
+no_text : {A : Type 0} → NoText {T = Placed} {A = A} (λ x w. ⊥)
+no_text x w h = h
+
+no_part : NoText (Sum (λ x w. ⊥) (λ x w. ⊥))
+no_part (TermF f) w h = h
+no_part (TermP p) w h = h
+no_part (TermC c) w h = h
+
+const_case : (On : Type 0) (c : Context) (k : Kind) → MoveGood On (merge_const Stray (const_move (Declared c) k)) (merge_const Stray (const_move (Declared c) k)) (OrConst (Sum (λ x w. ⊥) (λ x w. ⊥)) (ConstRest (Declared c) k)) (OrConst (Sum (λ x w. ⊥) (λ x w. ⊥)) (ConstRest (Declared c) k)) never
+const_case On c k = or_const On (const_move (Declared c) k) (const_move (Declared c) k) (Sum (λ x w. ⊥) (λ x w. ⊥)) (Sum (λ x w. ⊥) (λ x w. ⊥)) (ConstRest (Declared c) k) (ConstRest (Declared c) k) no_part no_part (const_each On (Declared c) k)
+
+term_each : {On : Type 0} {o o' : Option Inner} {n m : ℕ} → Inside Level On o o' n m → (c : Context) (k : Kind) → MoveGood On (term_move c o k) (term_move c o' k) (TermRest c n k) (TermRest c m k) never
+term_each {On} b c (KName a) = done_good On (variable (look_up a c) a)
+term_each {On} b c (KNumber z) = const_case On c (KNumber z)
+term_each {On} b c (KString s) = const_case On c (KString s)
+term_each {On} b c (KWord word.True) = const_case On c (KWord word.True)
+term_each {On} b c (KWord word.False) = const_case On c (KWord word.False)
+term_each {On} b c (KSign LeftBrace) = const_case On c (KSign LeftBrace)
+term_each {On} {o} {o'} {n} {m} b c k = or_part On (part_move (Declared c) o k) (part_move (Declared c) o' k) (PartRest (Declared c) n k) (PartRest (Declared c) m k) (λ x w. ⊥) (λ x w. ⊥) (part_each b (Declared c) k) (no_const (Declared c) n k) (no_const (Declared c) m k) no_text no_text
+
+pub term_good : (c : Context) (d : ℕ) → Good (Unit {0}) (term_at c d) (term_at c (suc d)) (λ x. TermText c x d) (λ x. TermText c x (suc d)) never
+term_good c d = led_good kind (Unit {0}) (term_move c (below d)) (term_move c (below (suc d))) (TermRest c d) (TermRest c (suc d)) (λ x. TermText c x d) (λ x. TermText c x (suc d)) (term_heads c d) (term_heads c (suc d)) (term_each (below_level d) c)

@@ -4,3 +4,4 @@ pub mod ConstLaws
 pub mod TermLaws
 pub mod PartLaws
 pub mod WholeLaws
+pub mod TopLaws

@@ -5,3 +5,4 @@ pub mod TermLaws
 pub mod PartLaws
 pub mod WholeLaws
 pub mod TopLaws
+pub mod ReadLaws

@@ -75,6 +75,13 @@ module _ (p : ℕ → List Placed → Answer Placed TermTree) (L : ℕ → TermT
       let all = placed_length toks text a in
       omega (arith, cut, all, l)
 
+  pub front_fits : (d : ℕ) (text : List ℕ) (toks : List Token) (from : ℕ) (x : TermTree) (r : List Placed) → AreTokens toks text → from < length toks → p d (placed text (drop from toks)) ≡ Ok (x, r) → length r + 1 ≤ length toks
+  front_fits d text toks from x r a l e =
+      let one = (good d).low.sound (placed text (drop from toks)) x r e in
+      let size = ap length one.split ∙ length-append one.text r in
+      let left = left_size text toks from a l in
+      omega (arith, size, left)
+
   pub front_found : (d : ℕ) (text : List ℕ) (toks : List Token) (from n : ℕ) (x : TermTree) (r : List Placed) → AreTokens toks text → from < length toks → p d (placed text (drop from toks)) ≡ Ok (x, r) → n + length r + 1 ≡ length toks → FrontSpells (L d) text toks from n x
   front_found d text toks from n x r a l e i =
       let one = (good d).low.sound (placed text (drop from toks)) x r e in

@@ -54,6 +54,11 @@ abbrev pub IsFault : (ℕ → TermTree → List Placed → Type 0) → ℕ → L
 IsFault L d text Memory = Unit {0}
 IsFault L d text (At at w) = FaultOfText L d text at w
 
+-- a cause of the syntax as a cause of the text
+abbrev pub text_why : Why → TextWhy
+text_why why.Unexpected = Unexpected
+text_why why.TooDeep = TooDeep
+
 -- ---- answers
 
 -- what is answered is the term, unless memory ran out

@@ -5,3 +5,4 @@ pub mod Grammar
 pub mod TermReaders
 pub mod AlphabetViews
 pub mod Accepted
+pub mod Starts

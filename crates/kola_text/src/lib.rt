@@ -4,7 +4,10 @@
 mod alphabet;
 mod fault;
 mod print;
+mod read;
+mod reading;
 
 pub use alphabet::{Kind, Sign, Word};
 pub use fault::{TextFault, TextWhy};
 pub use print::print_term;
+pub use read::{read_pattern_part, read_term, read_term_part};

@@ -6,3 +6,4 @@ pub mod PartLaws
 pub mod WholeLaws
 pub mod TopLaws
 pub mod ReadLaws
+mod ReadingExamples

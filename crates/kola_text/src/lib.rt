@@ -11,3 +11,6 @@ pub use alphabet::{Kind, Sign, Word};
 pub use fault::{TextFault, TextWhy};
 pub use print::print_term;
 pub use read::{read_pattern_part, read_term, read_term_part};
+
+#[cfg(test)]
+mod tests;

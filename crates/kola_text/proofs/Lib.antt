@@ -7,3 +7,4 @@ pub mod WholeLaws
 pub mod TopLaws
 pub mod ReadLaws
 mod ReadingExamples
+pub mod OneAnswer

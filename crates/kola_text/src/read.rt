@@ -1,6 +1,6 @@
 //! Terms and patterns from their text.
 
-ghost use Rattle.std.specs.Prelude.{◌≡◌, ◌++◌, ◌+◌, ◌<◌, ◌≤◌, List, drop, length, IfOk, IfErr};
+ghost use Rattle.std.specs.Prelude.{◌≡◌, ◌++◌, ◌+◌, ◌<◌, ◌≤◌, ℕ, List, drop, length, IfOk, IfErr};
 ghost use Rattle.kola_base.specs.Placed.{Placed, placed, place};
 ghost use Rattle.kola_base.specs.Tokens.{AreTokens};
 ghost use Rattle.kola_parse.specs.Given.{Gives};
@@ -8,7 +8,8 @@ ghost use Rattle.kola_parse.specs.Reader.{whole};
 ghost use Rattle.kola_term.specs.ContextView.{context_of};
 ghost use Rattle.kola_term.specs.Terms.{TermTree};
 ghost use Rattle.kola_term.specs.TermView.{term_tree};
-ghost use Rattle.kola_text.specs.Accepted.{Spells, IsTerm, IsFault, FrontSpells, IsPart, IsPartFault, text_why};
+ghost use Rattle.kola_text.specs.Accepted.{Spells, IsTerm, IsFault, FrontSpells, IsPart, IsPartFault, FaultOfText, text_why};
+ghost use Rattle.kola_text.specs.declared.fault.TextWhy.{TextWhy};
 ghost use Rattle.kola_text.specs.Grammar.{TermText, PatternText};
 ghost use Rattle.kola_text.specs.Starts.{StartText, start_at, start_of};
 
@@ -196,3 +197,13 @@ pub fn read_pattern_part(
 {
     part_within(alloc, text, toks, from, Start::Pattern, LEVELS)
 }
+
+/// No text writes two terms, or a term and a fault, or has two first faults.
+pub fn a_text_is_one_term_or_has_one_fault(text: &[u8], vars: &MetaCtx)
+    ensures one_term { (x y : TermTree) → Spells (λ x. TermText (context_of vars.now) x LEVELS) text.now x
+        → Spells (λ x. TermText (context_of vars.now) x LEVELS) text.now y → x ≡ y }
+    ensures not_both { (x : TermTree) (at : ℕ) (why : TextWhy) → Spells (λ x. TermText (context_of vars.now) x LEVELS) text.now x
+        → FaultOfText (λ d x. TermText (context_of vars.now) x d) LEVELS text.now at why → ⊥ }
+    ensures one_fault { (at to : ℕ) (why cause : TextWhy) → FaultOfText (λ d x. TermText (context_of vars.now) x d) LEVELS text.now at why
+        → FaultOfText (λ d x. TermText (context_of vars.now) x d) LEVELS text.now to cause → (at ≡ to) × (why ≡ cause) }
+{}

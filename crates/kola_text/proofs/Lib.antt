@@ -1,4 +1,5 @@
 mod Examples
+mod Printed
 pub mod Symbols
 pub mod ConstLaws
 pub mod TermLaws

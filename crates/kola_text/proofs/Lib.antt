@@ -1,5 +1,6 @@
 mod Examples
 mod Printed
+mod Alone
 pub mod Symbols
 pub mod ConstLaws
 pub mod TermLaws

@@ -1,6 +1,7 @@
 mod Examples
 mod Printed
 mod Alone
+mod NumbersBack
 pub mod Symbols
 pub mod ConstLaws
 pub mod TermLaws

@@ -2,6 +2,7 @@ mod Examples
 mod Printed
 mod Alone
 mod NumbersBack
+mod StringsBack
 pub mod Symbols
 pub mod ConstLaws
 pub mod TermLaws

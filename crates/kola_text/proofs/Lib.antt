@@ -3,6 +3,7 @@ mod Printed
 mod Alone
 mod NumbersBack
 mod StringsBack
+mod Spelt
 pub mod Symbols
 pub mod ConstLaws
 pub mod TermLaws

@@ -4,6 +4,8 @@ mod Alone
 mod NumbersBack
 mod StringsBack
 mod Spelt
+mod ConstSpelt
+mod TermSpelt
 pub mod Symbols
 pub mod ConstLaws
 pub mod TermLaws

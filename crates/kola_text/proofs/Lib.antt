@@ -1,4 +1,5 @@
 mod Examples
+pub mod StringsKept
 mod Printed
 mod Alone
 mod NumbersBack
@@ -6,6 +7,7 @@ mod StringsBack
 mod Spelt
 mod ConstSpelt
 mod TermSpelt
+pub mod ReadAgain
 pub mod Symbols
 pub mod ConstLaws
 pub mod TermLaws

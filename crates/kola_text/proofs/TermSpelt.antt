@@ -65,18 +65,18 @@ close : {K : Class → Bool} → Spelt apart K (codes ")") (KSign signs.Close �
 close = led (single 41 refl refl) (signed signs.Close) nothing
 
 -- an opening parenthesis, and then a text
-open_ : {J I K : Class → Bool} {bs : List ℕ} {A : Text} → J Single ≡ true → Spelt I K bs A → Spelt J K (40 ∷ bs) (KSign signs.Open ▸ A)
-open_ j r = led (single 40 j refl) (signed signs.Open) r
+opened : {J I K : Class → Bool} {bs : List ℕ} {A : Text} → J Single ≡ true → Spelt I K bs A → Spelt J K (40 ∷ bs) (KSign signs.Open ▸ A)
+opened j r = led (single 40 j refl) (signed signs.Open) r
 
 then_comma : {K : Class → Bool} {bs : List ℕ} {A : Text} → Spelt opens K bs A → Spelt apart K (44 ∷ 32 ∷ bs) (KSign signs.Comma ▸ A)
 then_comma r = led (comma refl) (signed signs.Comma) r
 
--- a sign of one byte between blanks
+-- a sign of one byte by_o blanks
 spaced : {J K : Class → Bool} (b : ℕ) → J Blank ≡ true → class b ≡ Single → Token J K (32 ∷ b ∷ 32 ∷ []) (LSign (b ∷ []))
 spaced b j e = blank_before j (blank_behind {K = apart} refl (single {J = opens} b refl e))
 
-between : {K : Class → Bool} → Token apart K (codes " o ") (LWord (codes "o"))
-between = blank_before refl (blank_behind {K = apart} refl (word_token {J = opens} (codes "o") refl refl))
+by_o : {K : Class → Bool} → Token apart K (codes " o ") (LWord (codes "o"))
+by_o = blank_before refl (blank_behind {K = apart} refl (word_token {J = opens} (codes "o") refl refl))
 
 truth_spelt : (b : Bool) → Spelt opens apart (truth b) (TruthText b)
 truth_spelt true = led (word_token (codes "true") refl refl) (worded words.True) nothing
@@ -138,17 +138,17 @@ mutual
   fun_spelt c s FIsect d e h k l = led (word_token (codes "isect") refl refl) (worded words.Isect) nothing
   fun_spelt c s FMinus d e h k l = led (word_token (codes "minus") refl refl) (worded words.Minus) nothing
   fun_spelt c s (FAttr a) d e h k l = led (single 46 refl refl) (signed signs.Dot) (leaf (word_token {J = opens} a refl h) (λ t i. i))
-  fun_spelt c s (FComp f g) d e h k l = binary (codes "(") (fun_spelling f) (codes " o ") (fun_spelling g) (codes ")") (within d (omega (arith, l, fun_some f)) (λ m i. open_ refl (both (fun_spelt c s f m e h.0 k.0 (omega (arith, l, i))) (led between (worded words.O) (both (fun_spelt c (behind_fun s f) g m (declared_fun c s f e) h.1 k.1 (omega (arith, l, i))) close)))))
-  fun_spelt c s (FTimes f g) d e h k l = binary (codes "(") (fun_spelling f) (codes " * ") (fun_spelling g) (codes ")") (within d (omega (arith, l, fun_some f)) (λ m i. open_ refl (both (fun_spelt c s f m e h.0 k.0 (omega (arith, l, i))) (led (spaced 42 refl refl) (signed signs.Star) (both (fun_spelt c (behind_fun s f) g m (declared_fun c s f e) h.1 k.1 (omega (arith, l, i))) close)))))
+  fun_spelt c s (FComp f g) d e h k l = binary (codes "(") (fun_spelling f) (codes " o ") (fun_spelling g) (codes ")") (within d (omega (arith, l, fun_some f)) (λ m i. opened refl (both (fun_spelt c s f m e h.0 k.0 (omega (arith, l, i))) (led by_o (worded words.O) (both (fun_spelt c (behind_fun s f) g m (declared_fun c s f e) h.1 k.1 (omega (arith, l, i))) close)))))
+  fun_spelt c s (FTimes f g) d e h k l = binary (codes "(") (fun_spelling f) (codes " * ") (fun_spelling g) (codes ")") (within d (omega (arith, l, fun_some f)) (λ m i. opened refl (both (fun_spelt c s f m e h.0 k.0 (omega (arith, l, i))) (led (spaced 42 refl refl) (signed signs.Star) (both (fun_spelt c (behind_fun s f) g m (declared_fun c s f e) h.1 k.1 (omega (arith, l, i))) close)))))
   fun_spelt c s (FPair f g) d e h k l = binary (codes "<") (fun_spelling f) (codes ", ") (fun_spelling g) (codes ">") (within d (omega (arith, l, fun_some f)) (λ m i. led (less refl) (signed signs.Less) (both (fun_spelt c s f m e h.0 k.0 (omega (arith, l, i))) (then_comma (both (fun_spelt c (behind_fun s f) g m (declared_fun c s f e) h.1 k.1 (omega (arith, l, i))) (led (greater refl) (signed signs.Greater) nothing))))))
-  fun_spelt c s (FK x) d e h k l = within d (omega (arith, l)) (λ m i. led (word_token (codes "K") refl refl) (worded words.K) (open_ refl (both (const_spelt c s x e h k) close)))
-  fun_spelt c s (FC f x) d e h k l = binary (codes "C(") (fun_spelling f) (codes ", ") (const_spelling x) (codes ")") (within d (omega (arith, l, fun_some f)) (λ m i. led (word_token (codes "C") refl refl) (worded words.C) (open_ refl (both (fun_spelt c s f m e h.0 k.0 (omega (arith, l, i))) (then_comma (both (const_spelt c (behind_fun s f) x (declared_fun c s f e) h.1 k.1) close))))))
-  fun_spelt c s (FIf p f g) d e h k l = ternary (codes "if(") (pred_spelling p) (codes ", ") (fun_spelling f) (codes ", ") (fun_spelling g) (codes ")") (within d (omega (arith, l, pred_some p)) (λ m i. led (word_token (codes "if") refl refl) (worded words.If) (open_ refl (both (pred_spelt c s p m e h.0 k.0 (omega (arith, l, i))) (then_comma (both (fun_spelt c (behind_pred s p) f m (declared_pred c s p e) h.1.0 k.1.0 (omega (arith, l, i))) (then_comma (both (fun_spelt c (behind_fun (behind_pred s p) f) g m (declared_fun c (behind_pred s p) f (declared_pred c s p e)) h.1.1 k.1.1 (omega (arith, l, i))) close))))))))
-  fun_spelt c s (FIterate p f) d e h k l = binary (codes "iterate(") (pred_spelling p) (codes ", ") (fun_spelling f) (codes ")") (within d (omega (arith, l, pred_some p)) (λ m i. led (word_token (codes "iterate") refl refl) (worded words.Iterate) (open_ refl (both (pred_spelt c s p m e h.0 k.0 (omega (arith, l, i))) (then_comma (both (fun_spelt c (behind_pred s p) f m (declared_pred c s p e) h.1 k.1 (omega (arith, l, i))) close))))))
-  fun_spelt c s (FIter p f) d e h k l = binary (codes "iter(") (pred_spelling p) (codes ", ") (fun_spelling f) (codes ")") (within d (omega (arith, l, pred_some p)) (λ m i. led (word_token (codes "iter") refl refl) (worded words.Iter) (open_ refl (both (pred_spelt c s p m e h.0 k.0 (omega (arith, l, i))) (then_comma (both (fun_spelt c (behind_pred s p) f m (declared_pred c s p e) h.1 k.1 (omega (arith, l, i))) close))))))
-  fun_spelt c s (FJoin p f) d e h k l = binary (codes "join(") (pred_spelling p) (codes ", ") (fun_spelling f) (codes ")") (within d (omega (arith, l, pred_some p)) (λ m i. led (word_token (codes "join") refl refl) (worded words.Join) (open_ refl (both (pred_spelt c s p m e h.0 k.0 (omega (arith, l, i))) (then_comma (both (fun_spelt c (behind_pred s p) f m (declared_pred c s p e) h.1 k.1 (omega (arith, l, i))) close))))))
-  fun_spelt c s (FNest f g) d e h k l = binary (codes "nest(") (fun_spelling f) (codes ", ") (fun_spelling g) (codes ")") (within d (omega (arith, l, fun_some f)) (λ m i. led (word_token (codes "nest") refl refl) (worded words.Nest) (open_ refl (both (fun_spelt c s f m e h.0 k.0 (omega (arith, l, i))) (then_comma (both (fun_spelt c (behind_fun s f) g m (declared_fun c s f e) h.1 k.1 (omega (arith, l, i))) close))))))
-  fun_spelt c s (FUnnest f g) d e h k l = binary (codes "unnest(") (fun_spelling f) (codes ", ") (fun_spelling g) (codes ")") (within d (omega (arith, l, fun_some f)) (λ m i. led (word_token (codes "unnest") refl refl) (worded words.Unnest) (open_ refl (both (fun_spelt c s f m e h.0 k.0 (omega (arith, l, i))) (then_comma (both (fun_spelt c (behind_fun s f) g m (declared_fun c s f e) h.1 k.1 (omega (arith, l, i))) close))))))
+  fun_spelt c s (FK x) d e h k l = within d (omega (arith, l)) (λ m i. led (word_token (codes "K") refl refl) (worded words.K) (opened refl (both (const_spelt c s x e h k) close)))
+  fun_spelt c s (FC f x) d e h k l = binary (codes "C(") (fun_spelling f) (codes ", ") (const_spelling x) (codes ")") (within d (omega (arith, l, fun_some f)) (λ m i. led (word_token (codes "C") refl refl) (worded words.C) (opened refl (both (fun_spelt c s f m e h.0 k.0 (omega (arith, l, i))) (then_comma (both (const_spelt c (behind_fun s f) x (declared_fun c s f e) h.1 k.1) close))))))
+  fun_spelt c s (FIf p f g) d e h k l = ternary (codes "if(") (pred_spelling p) (codes ", ") (fun_spelling f) (codes ", ") (fun_spelling g) (codes ")") (within d (omega (arith, l, pred_some p)) (λ m i. led (word_token (codes "if") refl refl) (worded words.If) (opened refl (both (pred_spelt c s p m e h.0 k.0 (omega (arith, l, i))) (then_comma (both (fun_spelt c (behind_pred s p) f m (declared_pred c s p e) h.1.0 k.1.0 (omega (arith, l, i))) (then_comma (both (fun_spelt c (behind_fun (behind_pred s p) f) g m (declared_fun c (behind_pred s p) f (declared_pred c s p e)) h.1.1 k.1.1 (omega (arith, l, i))) close))))))))
+  fun_spelt c s (FIterate p f) d e h k l = binary (codes "iterate(") (pred_spelling p) (codes ", ") (fun_spelling f) (codes ")") (within d (omega (arith, l, pred_some p)) (λ m i. led (word_token (codes "iterate") refl refl) (worded words.Iterate) (opened refl (both (pred_spelt c s p m e h.0 k.0 (omega (arith, l, i))) (then_comma (both (fun_spelt c (behind_pred s p) f m (declared_pred c s p e) h.1 k.1 (omega (arith, l, i))) close))))))
+  fun_spelt c s (FIter p f) d e h k l = binary (codes "iter(") (pred_spelling p) (codes ", ") (fun_spelling f) (codes ")") (within d (omega (arith, l, pred_some p)) (λ m i. led (word_token (codes "iter") refl refl) (worded words.Iter) (opened refl (both (pred_spelt c s p m e h.0 k.0 (omega (arith, l, i))) (then_comma (both (fun_spelt c (behind_pred s p) f m (declared_pred c s p e) h.1 k.1 (omega (arith, l, i))) close))))))
+  fun_spelt c s (FJoin p f) d e h k l = binary (codes "join(") (pred_spelling p) (codes ", ") (fun_spelling f) (codes ")") (within d (omega (arith, l, pred_some p)) (λ m i. led (word_token (codes "join") refl refl) (worded words.Join) (opened refl (both (pred_spelt c s p m e h.0 k.0 (omega (arith, l, i))) (then_comma (both (fun_spelt c (behind_pred s p) f m (declared_pred c s p e) h.1 k.1 (omega (arith, l, i))) close))))))
+  fun_spelt c s (FNest f g) d e h k l = binary (codes "nest(") (fun_spelling f) (codes ", ") (fun_spelling g) (codes ")") (within d (omega (arith, l, fun_some f)) (λ m i. led (word_token (codes "nest") refl refl) (worded words.Nest) (opened refl (both (fun_spelt c s f m e h.0 k.0 (omega (arith, l, i))) (then_comma (both (fun_spelt c (behind_fun s f) g m (declared_fun c s f e) h.1 k.1 (omega (arith, l, i))) close))))))
+  fun_spelt c s (FUnnest f g) d e h k l = binary (codes "unnest(") (fun_spelling f) (codes ", ") (fun_spelling g) (codes ")") (within d (omega (arith, l, fun_some f)) (λ m i. led (word_token (codes "unnest") refl refl) (worded words.Unnest) (opened refl (both (fun_spelt c s f m e h.0 k.0 (omega (arith, l, i))) (then_comma (both (fun_spelt c (behind_fun s f) g m (declared_fun c s f e) h.1 k.1 (omega (arith, l, i))) close))))))
   fun_spelt c s (FMeta n) d e h k l = name_spelt (names_fun s) n h.0 (ap (λ s. names_fun s n) e ∙ h.1)
 
   pred_spelt : (c : Context) (s : Scope) (p : PredTree) (d : ℕ) → s ≡ Declared c → PredMeets (readable c) p → PredMeets kept p → pred_depth p ≤ d + 1 → Spelt opens apart (pred_spelling p) (PredText s p d)
@@ -156,15 +156,15 @@ mutual
   pred_spelt c s PLt d e h k l = led (word_token (codes "lt") refl refl) (worded words.Lt) nothing
   pred_spelt c s PLe d e h k l = led (word_token (codes "le") refl refl) (worded words.Le) nothing
   pred_spelt c s PMember d e h k l = led (word_token (codes "in") refl refl) (worded words.In) nothing
-  pred_spelt c s (PAt p f) d e h k l = binary (codes "(") (pred_spelling p) (codes " @ ") (fun_spelling f) (codes ")") (within d (omega (arith, l, pred_some p)) (λ m i. open_ refl (both (pred_spelt c s p m e h.0 k.0 (omega (arith, l, i))) (led (spaced 64 refl refl) (signed signs.At) (both (fun_spelt c (behind_pred s p) f m (declared_pred c s p e) h.1 k.1 (omega (arith, l, i))) close)))))
-  pred_spelt c s (PAnd p q) d e h k l = binary (codes "(") (pred_spelling p) (codes " & ") (pred_spelling q) (codes ")") (within d (omega (arith, l, pred_some p)) (λ m i. open_ refl (both (pred_spelt c s p m e h.0 k.0 (omega (arith, l, i))) (led (spaced 38 refl refl) (signed signs.And) (both (pred_spelt c (behind_pred s p) q m (declared_pred c s p e) h.1 k.1 (omega (arith, l, i))) close)))))
-  pred_spelt c s (POr p q) d e h k l = binary (codes "(") (pred_spelling p) (codes " | ") (pred_spelling q) (codes ")") (within d (omega (arith, l, pred_some p)) (λ m i. open_ refl (both (pred_spelt c s p m e h.0 k.0 (omega (arith, l, i))) (led bar (signed signs.Or) (both (pred_spelt c (behind_pred s p) q m (declared_pred c s p e) h.1 k.1 (omega (arith, l, i))) close)))))
+  pred_spelt c s (PAt p f) d e h k l = binary (codes "(") (pred_spelling p) (codes " @ ") (fun_spelling f) (codes ")") (within d (omega (arith, l, pred_some p)) (λ m i. opened refl (both (pred_spelt c s p m e h.0 k.0 (omega (arith, l, i))) (led (spaced 64 refl refl) (signed signs.At) (both (fun_spelt c (behind_pred s p) f m (declared_pred c s p e) h.1 k.1 (omega (arith, l, i))) close)))))
+  pred_spelt c s (PAnd p q) d e h k l = binary (codes "(") (pred_spelling p) (codes " & ") (pred_spelling q) (codes ")") (within d (omega (arith, l, pred_some p)) (λ m i. opened refl (both (pred_spelt c s p m e h.0 k.0 (omega (arith, l, i))) (led (spaced 38 refl refl) (signed signs.And) (both (pred_spelt c (behind_pred s p) q m (declared_pred c s p e) h.1 k.1 (omega (arith, l, i))) close)))))
+  pred_spelt c s (POr p q) d e h k l = binary (codes "(") (pred_spelling p) (codes " | ") (pred_spelling q) (codes ")") (within d (omega (arith, l, pred_some p)) (λ m i. opened refl (both (pred_spelt c s p m e h.0 k.0 (omega (arith, l, i))) (led bar (signed signs.Or) (both (pred_spelt c (behind_pred s p) q m (declared_pred c s p e) h.1 k.1 (omega (arith, l, i))) close)))))
   pred_spelt c s (PNot p) d e h k l = within d (omega (arith, l, pred_some p)) (λ m i. led (single 126 refl refl) (signed signs.Not) (pred_spelt c s p m e h k (omega (arith, l, i))))
-  pred_spelt c s (PInv p) d e h k l = within d (omega (arith, l, pred_some p)) (λ m i. led (word_token (codes "inv") refl refl) (worded words.Inv) (open_ refl (both (pred_spelt c s p m e h k (omega (arith, l, i))) close)))
-  pred_spelt c s (PEx p) d e h k l = within d (omega (arith, l, pred_some p)) (λ m i. led (word_token (codes "ex") refl refl) (worded words.Ex) (open_ refl (both (pred_spelt c s p m e h k (omega (arith, l, i))) close)))
-  pred_spelt c s (PFa p) d e h k l = within d (omega (arith, l, pred_some p)) (λ m i. led (word_token (codes "fa") refl refl) (worded words.Fa) (open_ refl (both (pred_spelt c s p m e h k (omega (arith, l, i))) close)))
-  pred_spelt c s (PKP b) d e h k l = led (word_token (codes "KP") refl refl) (worded words.KP) (open_ refl (both (truth_spelt b) close))
-  pred_spelt c s (PCP p x) d e h k l = binary (codes "CP(") (pred_spelling p) (codes ", ") (const_spelling x) (codes ")") (within d (omega (arith, l, pred_some p)) (λ m i. led (word_token (codes "CP") refl refl) (worded words.CP) (open_ refl (both (pred_spelt c s p m e h.0 k.0 (omega (arith, l, i))) (then_comma (both (const_spelt c (behind_pred s p) x (declared_pred c s p e) h.1 k.1) close))))))
+  pred_spelt c s (PInv p) d e h k l = within d (omega (arith, l, pred_some p)) (λ m i. led (word_token (codes "inv") refl refl) (worded words.Inv) (opened refl (both (pred_spelt c s p m e h k (omega (arith, l, i))) close)))
+  pred_spelt c s (PEx p) d e h k l = within d (omega (arith, l, pred_some p)) (λ m i. led (word_token (codes "ex") refl refl) (worded words.Ex) (opened refl (both (pred_spelt c s p m e h k (omega (arith, l, i))) close)))
+  pred_spelt c s (PFa p) d e h k l = within d (omega (arith, l, pred_some p)) (λ m i. led (word_token (codes "fa") refl refl) (worded words.Fa) (opened refl (both (pred_spelt c s p m e h k (omega (arith, l, i))) close)))
+  pred_spelt c s (PKP b) d e h k l = led (word_token (codes "KP") refl refl) (worded words.KP) (opened refl (both (truth_spelt b) close))
+  pred_spelt c s (PCP p x) d e h k l = binary (codes "CP(") (pred_spelling p) (codes ", ") (const_spelling x) (codes ")") (within d (omega (arith, l, pred_some p)) (λ m i. led (word_token (codes "CP") refl refl) (worded words.CP) (opened refl (both (pred_spelt c s p m e h.0 k.0 (omega (arith, l, i))) (then_comma (both (const_spelt c (behind_pred s p) x (declared_pred c s p e) h.1 k.1) close))))))
   pred_spelt c s (PMeta n) d e h k l = name_spelt (names_pred s) n h.0 (ap (λ s. names_pred s n) e ∙ h.1)
 
 -- ---- whole terms

@@ -1,10 +1,9 @@
 -- Pieces that stand alone: nothing of what follows them goes on them.
-use Rattle.std.proofs.Common.{◌≡◌, ℕ, zero, suc, ◌+◌, ◌<◌, List, [], ◌∷◌, ◌++◌, length, map, Bool, true, false, cond, ◌&&◌, Option, Some, None, refl, sym, ap, ◌∙◌, arith, one-add}
+use Rattle.std.proofs.Common.{◌≡◌, ℕ, suc, ◌+◌, ◌<◌, List, [], ◌∷◌, ◌++◌, length, map, Bool, true, false, cond, Some, refl, ap, ◌∙◌, arith}
 use Rattle.std.specs.List.{list_all, prefix_len}
 use Rattle.std.proofs.lemmas.Bool.{and_parts}
 use Rattle.kola_base.specs.declared.class.Class.{Class}
-use Rattle.kola_base.specs.declared.class.Class.TheVariants.{Blank, LineEnd, Letter, Digit, Minus, Slash, Less, Greater, Equal, Bang, Bar, Quote, Backslash, Single, Other}
-use Rattle.kola_base.specs.declared.scan.Sort.{Sort}
+use Rattle.kola_base.specs.declared.class.Class.TheVariants.{Letter, Digit, Minus, Less, Greater, Equal}
 use Rattle.kola_base.specs.declared.scan.Sort.TheVariants as sorts
 use Rattle.kola_base.specs.Pieces.{class, goes_on, shape, piece}
 use Rattle.kola_base.specs.Scanning.{next_class, first_by, first_piece}

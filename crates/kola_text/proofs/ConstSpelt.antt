@@ -9,8 +9,6 @@ use Rattle.std.proofs.lemmas.Bool.{and_parts}
 use Rattle.kola_core.specs.Integers.{in_64}
 use Rattle.kola_base.specs.declared.class.Class.{Class}
 use Rattle.kola_base.specs.declared.class.Class.TheVariants.{Single}
-use Rattle.kola_base.specs.declared.scan.Sort.TheVariants as sorts
-use Rattle.kola_base.specs.Pieces.{piece}
 use Rattle.kola_base.specs.Lexemes.{LSign}
 use Rattle.kola_base.specs.Placed.{Placed}
 use Rattle.kola_parse.specs.Kinds.{leads}
@@ -18,16 +16,16 @@ use Rattle.kola_parse.specs.Texts.{ends, Made}
 use Rattle.kola_values.specs.Values.{ValueTree, VInt, VBool, VStr, of_items}
 use Rattle.kola_values.specs.Order.{cmp}
 use Rattle.kola_values.specs.Sets.{Each, put_at, put, canon}
-use Rattle.kola_values.specs.Spelling.{truth, value_spelling, further_members}
+use Rattle.kola_values.specs.Spelling.{value_spelling, further_members}
 use Rattle.kola_values.specs.Types.{TypeTree, TInt, TBool, TStr, TSet}
 use Rattle.kola_term.specs.Typing.{Context}
 use Rattle.kola_term.specs.Literals.{literal_type, is_literal_of, each_literal, rises_from, set_type_of, set_type}
 use Rattle.kola_term.specs.Terms.{ConstTree, CInt, CBool, CStr, CSet, CExtent, CMeta}
 use Rattle.kola_text.specs.declared.alphabet.Sign.TheVariants as signs
 use Rattle.kola_text.specs.declared.alphabet.Word.TheVariants as words
-use Rattle.kola_text.specs.Alphabet.{KWord, kind_of}
+use Rattle.kola_text.specs.Alphabet.{kind_of}
 use Rattle.kola_text.specs.Scopes.{Scope, Declared, names_const, names_extent}
-use Rattle.kola_text.specs.Grammar.{Text, kind, ◌▸◌, NameText, literal_of, alike, LiteralText, MoreText, LiteralsText, ConstText}
+use Rattle.kola_text.specs.Grammar.{kind, NameText, literal_of, alike, MoreText, LiteralsText, ConstText}
 use Rattle.kola_text.specs.Readable.{IsName, IsUtf8Value, ReadableConst, KeptConst}
 use Rattle.kola_text.specs.Spelling.{const_spelling}
 use Rattle.kola_text.proofs.Alone.{opens, apart}

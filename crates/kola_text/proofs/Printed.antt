@@ -1,12 +1,12 @@
 -- Texts that are put together from the left: what a piece says, then what the rest of the text says, and so the tokens of all of it.
-use Rattle.std.proofs.Common.{◌≡◌, ℕ, ◌+◌, ◌≤◌, List, [], ◌∷◌, ◌++◌, length, take, drop, map, Option, Some, None, refl, sym, ap, subst, ◌∙◌, append_assoc, arith, length-append}
+use Rattle.std.proofs.Common.{◌≡◌, ℕ, ◌+◌, List, [], ◌∷◌, ◌++◌, length, take, drop, map, Option, Some, None, refl, sym, ap, subst, ◌∙◌, append_assoc, arith}
 use Rattle.std.proofs.Math.Seq.{take-append_seam, drop-append_seam}
 use Rattle.std.proofs.lemmas.List.{drop-drop}
 use Rattle.kola_base.specs.declared.scan.Sort.{Sort}
 use Rattle.kola_base.specs.declared.scan.Sort.TheVariants as sorts
 use Rattle.kola_base.specs.declared.lex.Kind.{Kind}
 use Rattle.kola_base.specs.declared.lex.Token.{Token}
-use Rattle.kola_base.specs.Pieces.{class, IsLongest}
+use Rattle.kola_base.specs.Pieces.{class}
 use Rattle.kola_base.specs.Scanning.{first_piece}
 use Rattle.kola_base.specs.Tokens.{IsSound, Cuts, kind_of, token_of, tokens_of, end_at, AreTokens}
 use Rattle.kola_base.specs.Lexemes.{Lexeme, lexeme, lexemes}

@@ -1,5 +1,5 @@
 -- A term that is printed is read again.
-use Rattle.std.proofs.Common.{◌≡◌, ℕ, ◌+◌, ◌≤◌, List, [], ◌∷◌, ◌++◌, refl, subst, ap₂, ◌∙◌, arith}
+use Rattle.std.proofs.Common.{ℕ, ◌+◌, ◌≤◌, List, [], ◌++◌, refl, subst}
 use Rattle.std.proofs.lemmas.List.{append-nil}
 use Rattle.kola_base.specs.Placed.{Placed, placed}
 use Rattle.kola_term.specs.Counts.{depth}

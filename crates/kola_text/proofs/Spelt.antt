@@ -1,5 +1,5 @@
 -- Bytes that spell a text of the grammar whatever follows them, and how such bytes are joined.
-use Rattle.std.proofs.Common.{◌≡◌, ℕ, zero, suc, ◌+◌, ◌≤◌, Bool, true, false, List, [], ◌∷◌, ◌++◌, length, take, drop, map, Option, Some, None, codes, refl, sym, ap, subst, ◌∙◌, append_assoc, arith}
+use Rattle.std.proofs.Common.{◌≡◌, ℕ, zero, suc, ◌≤◌, Bool, true, List, [], ◌∷◌, ◌++◌, length, take, drop, map, None, codes, refl, sym, ap, subst, ◌∙◌, append_assoc, arith}
 use Rattle.std.proofs.Math.Seq.{take-append_seam, drop-append_seam}
 use Rattle.std.proofs.lemmas.List.{take-map, drop-map, take-append-drop}
 use Rattle.std.specs.Str.{IsUtf8}
@@ -10,10 +10,8 @@ use Rattle.kola_base.specs.declared.class.Class.{Class}
 use Rattle.kola_base.specs.declared.class.Class.TheVariants.{Blank, Letter, Digit, Minus, Less, Greater, Quote, Single}
 use Rattle.kola_base.specs.declared.scan.Sort.TheVariants as sorts
 use Rattle.kola_base.specs.Pieces.{class, piece}
-use Rattle.kola_base.specs.Scanning.{next_class, first_by, first_piece}
+use Rattle.kola_base.specs.Scanning.{next_class, first_by}
 use Rattle.kola_base.specs.Lexemes.{Lexeme, LWord, LNumber, LString, LSign}
-use Rattle.kola_base.specs.Numbers.{number_value}
-use Rattle.kola_base.specs.Strings.{string_value}
 use Rattle.kola_base.specs.Placed.{Placed}
 use Rattle.kola_parse.specs.Kinds.{leads}
 use Rattle.kola_parse.specs.Texts.{◌·◌, ends}
@@ -21,7 +19,7 @@ use Rattle.kola_values.specs.Spelling.{quoted}
 use Rattle.kola_text.specs.declared.alphabet.Sign.{Sign}
 use Rattle.kola_text.specs.declared.alphabet.Word.{Word}
 use Rattle.kola_text.specs.Alphabet.{Kind, KSign, KWord, KName, kind_of, sign_or, word_or, sign_spelling, word_spelling, word_named}
-use Rattle.kola_text.specs.Grammar.{Text, kind, ◌▸◌, inside}
+use Rattle.kola_text.specs.Grammar.{Text, ◌▸◌, inside}
 use Rattle.kola_text.proofs.Symbols.{sign_again, word_again}
 use Rattle.kola_text.proofs.Printed.{Says, piece_says}
 use Rattle.kola_text.proofs.Alone.{Before, opens, apart, word_alone, word_begins, less_alone, greater_alone}

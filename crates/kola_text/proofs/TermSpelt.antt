@@ -1,23 +1,20 @@
 -- What is printed of a term that can be read again is a text of it.
-use Rattle.std.proofs.Common.{◌≡◌, ℕ, suc, ◌+◌, ◌≤◌, Bool, true, false, List, [], ◌∷◌, ◌++◌, codes, refl, ap, subst, ◌∙◌, append_assoc, arith}
-use Rattle.std.specs.Prelude.{max}
+use Rattle.std.proofs.Common.{◌≡◌, ℕ, ◌+◌, ◌≤◌, Bool, true, false, List, [], ◌∷◌, ◌++◌, codes, refl, ap, subst, ◌∙◌, append_assoc, arith}
 use Rattle.kola_base.specs.declared.class.Class.{Class}
 use Rattle.kola_base.specs.declared.class.Class.TheVariants.{Blank, Single}
 use Rattle.kola_base.specs.declared.scan.Sort.TheVariants as sorts
 use Rattle.kola_base.specs.Pieces.{class}
 use Rattle.kola_base.specs.Lexemes.{Lexeme, LSign, LWord}
-use Rattle.kola_parse.specs.Texts.{◌·◌, ends}
+use Rattle.kola_parse.specs.Texts.{ends}
 use Rattle.kola_values.specs.Spelling.{truth}
 use Rattle.kola_term.specs.Typing.{Context}
 use Rattle.kola_term.specs.Counts.{fun_depth, pred_depth, depth}
-use Rattle.kola_term.specs.Terms.{ConstTree, CInt, CBool, CStr, CSet, CExtent, CMeta, FunTree, FId, FFst, FSnd, FFlat, FUnion, FIsect, FMinus, FAttr, FComp, FPair, FTimes, FK, FC, FIf, FIterate, FIter, FJoin, FNest, FUnnest, FMeta, PredTree, PEq, PLt, PLe, PMember, PAt, PAnd, POr, PNot, PInv, PKP, PCP, PEx, PFa, PMeta, TermTree, TermF, TermP, TermC}
-use Rattle.kola_text.specs.declared.alphabet.Sign.{Sign}
+use Rattle.kola_term.specs.Terms.{ConstTree, CExtent, CMeta, FunTree, FId, FFst, FSnd, FFlat, FUnion, FIsect, FMinus, FAttr, FComp, FPair, FTimes, FK, FC, FIf, FIterate, FIter, FJoin, FNest, FUnnest, FMeta, PredTree, PEq, PLt, PLe, PMember, PAt, PAnd, POr, PNot, PInv, PKP, PCP, PEx, PFa, PMeta, TermTree, TermF, TermP, TermC}
 use Rattle.kola_text.specs.declared.alphabet.Sign.TheVariants as signs
-use Rattle.kola_text.specs.declared.alphabet.Word.{Word}
 use Rattle.kola_text.specs.declared.alphabet.Word.TheVariants as words
-use Rattle.kola_text.specs.Alphabet.{KSign, KWord, sign_spelling, word_spelling}
+use Rattle.kola_text.specs.Alphabet.{KSign}
 use Rattle.kola_text.specs.Scopes.{Scope, Declared, names_fun, names_pred, behind_name, behind_const, behind_fun, behind_pred}
-use Rattle.kola_text.specs.Grammar.{Text, ◌▸◌, LabelText, TruthText, FunText, PredText, TermText, names_none}
+use Rattle.kola_text.specs.Grammar.{Text, ◌▸◌, TruthText, FunText, PredText, TermText, names_none}
 use Rattle.kola_text.specs.Readable.{FunMeets, PredMeets, readable, kept, IsReadable, IsKept}
 use Rattle.kola_text.specs.Spelling.{const_spelling, fun_spelling, pred_spelling, term_spelling}
 use Rattle.kola_text.proofs.Printed.{Says, piece_says}

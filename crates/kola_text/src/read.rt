@@ -86,10 +86,7 @@ fn read_within(
         Ok(tokens) => tokens,
         Err(LexFault::Memory) => return Err(TextFault::Memory),
         Err(LexFault::At { at, why }) => {
-            return Err(TextFault::At {
-                at,
-                why: TextWhy::Lex(why),
-            });
+            return Err(TextFault::At { at, why: TextWhy::Lex(why) });
         }
     };
     match all_of(alloc, Lexemes::from_token(text, &tokens, 0), start, levels) {
@@ -126,12 +123,7 @@ fn part_within(
         IsPart x rest text.now tokens.now result }
     ensures fault { IfErr result (λ e. IsPartFault (StartText (start_of start.entry)) levels text.now tokens.now from e) }
 {
-    match front_of(
-        alloc,
-        Lexemes::from_token(text, tokens, from),
-        start,
-        levels,
-    ) {
+    match front_of(alloc, Lexemes::from_token(text, tokens, from), start, levels) {
         Ok((term, rest)) => Ok((term, next_token(tokens, &rest))),
         Err(Stop::Memory) => Err(TextFault::Memory),
         Err(Stop::Before(why, rest)) => Err(TextFault::At {

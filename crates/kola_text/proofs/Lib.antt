@@ -1,4 +1,13 @@
 mod Examples
+pub mod StringsKept
+mod Printed
+mod Alone
+mod NumbersBack
+mod StringsBack
+mod Spelt
+mod ConstSpelt
+mod TermSpelt
+pub mod ReadAgain
 pub mod Symbols
 pub mod ConstLaws
 pub mod TermLaws

@@ -6,3 +6,4 @@ pub mod TermReaders
 pub mod AlphabetViews
 pub mod Accepted
 pub mod Starts
+pub mod Readable

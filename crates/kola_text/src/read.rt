@@ -21,7 +21,7 @@ use kola_term::{MetaCtx, Term};
 use std::alloc::Global;
 
 /// How many levels may stand below a term or pattern: it is at most 256 deep.
-const LEVELS: usize = 255;
+pub(crate) const LEVELS: usize = 255;
 
 /// Where reading starts.
 #[derive(Clone, Copy)]

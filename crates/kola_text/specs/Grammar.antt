@@ -50,11 +50,13 @@ literal_of (KWord w.True) = Some (VBool true)
 literal_of (KWord w.False) = Some (VBool false)
 literal_of _ = None
 
--- two literals of one type
+-- v is of the type of the literal u, which is a string where it is neither an integer nor a truth value
 abbrev pub alike : ValueTree → ValueTree → Bool
 alike (VInt y) (VInt z) = true
+alike (VInt y) _ = false
 alike (VBool b) (VBool c) = true
-alike (VStr a) (VStr b) = true
+alike (VBool b) _ = false
+alike _ (VStr b) = true
 alike _ _ = false
 
 abbrev pub LiteralText : ValueTree → Text

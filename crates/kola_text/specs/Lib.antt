@@ -5,3 +5,5 @@ pub mod Grammar
 pub mod TermReaders
 pub mod AlphabetViews
 pub mod Accepted
+pub mod ScopeViews
+pub mod ScopeCode

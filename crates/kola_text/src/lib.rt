@@ -3,6 +3,9 @@
 
 mod alphabet;
 mod print;
+mod scope;
+mod tokens;
 
-pub use alphabet::{Kind, Sign, Word};
+pub use alphabet::{Kind, Sign, Word, kind_of};
 pub use print::print_term;
+pub use scope::Scope;

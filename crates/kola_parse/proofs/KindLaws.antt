@@ -16,6 +16,11 @@ pub record Tests {T : Type 0} (passes : T → Bool) (P : T → Type 0) : Type 0 
   pub some : T
   pub is : P some
 
+-- what is read only where a test says so
+pub when_good : {T A On : Type 0} {p q : List T → Answer T A} {L M : Lang T A} {K : A → T → Bool} (b : Bool) → Good On p q L M K → MoveGood On (when b p) (when b q) (λ x w. (b ≡ true) × L x w) (λ x w. (b ≡ true) × M x w) K
+when_good true h = good_as (λ x w n. (refl, n)) (λ x w n. n.1) (λ x w n. (refl, n)) (λ x w n. n.1) h
+when_good false h = (λ x w n. absurd (let e = n.0 in cc), λ x w n. absurd (let e = n.0 in cc))
+
 -- ---- one token
 
 module _ {T : Type 0} (passes : T → Bool) (P : T → Type 0) (h : Tests passes P) where

@@ -1,2 +1,4 @@
 mod Examples
 mod AlphabetExamples
+pub mod Symbols
+pub mod ConstLaws

@@ -2,3 +2,5 @@ mod Examples
 mod AlphabetExamples
 pub mod Symbols
 pub mod ConstLaws
+mod LiteralSets
+mod LiteralRounds

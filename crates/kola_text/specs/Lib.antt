@@ -7,3 +7,4 @@ pub mod AlphabetViews
 pub mod Accepted
 pub mod ScopeViews
 pub mod ScopeCode
+pub mod LiteralSets

@@ -2,6 +2,7 @@
 #![tactic(auto)]
 
 mod alphabet;
+mod literals;
 mod print;
 mod scope;
 mod tokens;

@@ -8,3 +8,5 @@ pub mod Accepted
 pub mod ScopeViews
 pub mod ScopeCode
 pub mod LiteralSets
+pub mod TailViews
+pub mod Heads

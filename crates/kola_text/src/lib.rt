@@ -4,6 +4,7 @@
 mod alphabet;
 mod literals;
 mod print;
+mod reading;
 mod scope;
 mod tokens;
 

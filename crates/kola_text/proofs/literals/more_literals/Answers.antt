@@ -30,10 +30,9 @@ loop-members-preserved c =
     let vs = map value_tree c.loop-members.members.items in
     let v = value_tree c.in-Some.value in
     let e = sym (ap (map value_tree) c.in_ok-push.ensures.items ∙ map-append value_tree c.loop-members.members.items (c.in-Some.value ∷ [])) in
-    let like = rw c.in-Some.is at c.in_ok-next.ensures.like in
-    (
+    let like = rw c.in-Some.is at c.in_ok-next.ensures.like in (
       c.loop-members.invariant.0
-      ∙ one_more u (u ∷ vs) c.loop-members.rest (u ∷ (vs ++ v ∷ [])) c.in_ok-next.after (rw c.in-Some.is at c.in_ok-next.ensures.read (u ∷ vs))
-      ∙ ap (λ ms. rounds (literals_round u) (u ∷ ms) c.in_ok-next.after) e,
+          ∙ one_more u (u ∷ vs) c.loop-members.rest (u ∷ (vs ++ v ∷ [])) c.in_ok-next.after (rw c.in-Some.is at c.in_ok-next.ensures.read (u ∷ vs))
+          ∙ ap (λ ms. rounds (literals_round u) (u ∷ ms) c.in_ok-next.after) e,
       subst (Each (λ v. alike u v ≡ true)) e (each_append (λ v. alike u v ≡ true) vs (v ∷ []) c.loop-members.invariant.1 (like, tt)),
     )

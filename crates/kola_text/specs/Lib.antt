@@ -10,3 +10,4 @@ pub mod ScopeCode
 pub mod LiteralSets
 pub mod TailViews
 pub mod Heads
+pub mod Leads

@@ -3,6 +3,7 @@
 
 mod alphabet;
 mod literals;
+mod parts;
 mod print;
 mod reading;
 mod scope;

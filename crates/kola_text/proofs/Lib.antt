@@ -4,3 +4,5 @@ pub mod Symbols
 pub mod ConstLaws
 mod LiteralSets
 mod LiteralRounds
+mod Leads
+mod Operands

@@ -11,3 +11,4 @@ pub mod LiteralSets
 pub mod TailViews
 pub mod Heads
 pub mod Leads
+pub mod Operands

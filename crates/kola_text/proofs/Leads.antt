@@ -1,16 +1,17 @@
 -- What is read of a part by how it begins.
-use Rattle.std.proofs.Common.{◌≡◌, ℕ, List, [], ◌∷◌, Option, Some, None, Result, Ok, Err, refl, sym, ap, subst, ◌∙◌}
+use Rattle.std.proofs.Common.{◌≡◌, ℕ, true, List, [], ◌∷◌, Option, Some, None, Result, Ok, Err, refl, sym, ap, subst, ◌∙◌}
 use Rattle.kola_base.specs.Placed.{Placed}
 use Rattle.kola_parse.specs.Reader.{Answer, ◌>>=◌, Move, Stray, Deep, Goes, eat, eat_at, made}
 use Rattle.kola_parse.specs.Kinds.{deeper}
+use Rattle.kola_term.specs.Typing.{Context}
 use Rattle.kola_term.specs.Terms.{FunTree, PredTree, TermTree, TermF, TermP, TermC}
 use Rattle.kola_text.specs.declared.alphabet.Sign.TheVariants.{Open, Less, Dot, LeftBrace}
 use Rattle.kola_text.specs.declared.alphabet.Word.TheVariants as w
 use Rattle.kola_text.specs.Alphabet.{Kind, KSign, KWord, KName, KNumber, KString, KOther}
 use Rattle.kola_text.specs.Grammar.{kind}
-use Rattle.kola_text.specs.Leads.{Lead, LOpen, LName, LFun, LConst, LPred, lead_of}
-use Rattle.kola_text.specs.Scopes.{Scope}
-use Rattle.kola_text.specs.TermReaders.{Inner, merge, fun_move, pred_move, part_move}
+use Rattle.kola_text.specs.Leads.{Lead, LOpen, LName, LFun, LConst, LPred, lead_of, leads_part}
+use Rattle.kola_text.specs.Scopes.{Scope, Declared}
+use Rattle.kola_text.specs.TermReaders.{Inner, merge, fun_move, pred_move, part_move, merge_const, term_move}
 
 pub open_is : (k : Kind) → lead_of k ≡ LOpen → k ≡ KSign Open
 open_is (KSign Open) h = refl
@@ -97,3 +98,23 @@ pub pred_led : (s : Scope) (o : Option Inner) (ts r : List Placed) (t : Placed) 
 pred_led s o ts r t x q e l h =
     subst (λ us. eat (λ t. pred_move s o (kind t)) us ≡ Ok (x, q) → eat (λ t. part_move s o (kind t)) us ≡ Ok (TermP x, q)) (sym e)
     (λ k. pred_lead s o (kind t) t r l ∙ ap (λ (z : Answer Placed PredTree). z >>= λ x. Ok (TermP x.0, x.1)) k) h
+
+no_const : (m : Move Placed TermTree) → merge_const m Stray ≡ m
+no_const Stray = refl
+no_const Deep = refl
+no_const (Goes p) = refl
+
+-- what begins as a part is read as one
+term_part : (c : Context) (o : Option Inner) (k : Kind) → leads_part (lead_of k) ≡ true → term_move c o k ≡ part_move (Declared c) o k
+term_part c o (KName n) h = absurd cc
+term_part c o (KNumber z) h = absurd cc
+term_part c o (KString b) h = absurd cc
+term_part c o (KWord w.True) h = absurd cc
+term_part c o (KWord w.False) h = absurd cc
+term_part c o (KWord v) h = no_const (part_move (Declared c) o (KWord v))
+term_part c o (KSign LeftBrace) h = absurd cc
+term_part c o (KSign v) h = no_const (part_move (Declared c) o (KSign v))
+term_part c o KOther h = refl
+
+pub term_led : (c : Context) (o : Option Inner) (ts r : List Placed) (t : Placed) → ts ≡ t ∷ r → leads_part (lead_of (kind t)) ≡ true → eat (λ t. term_move c o (kind t)) ts ≡ eat (λ t. part_move (Declared c) o (kind t)) ts
+term_led c o ts r t e l = subst (λ us. eat (λ t. term_move c o (kind t)) us ≡ eat (λ t. part_move (Declared c) o (kind t)) us) (sym e) (ap (λ m. eat_at m t r) (term_part c o (kind t) l))

@@ -1,5 +1,5 @@
 -- How a part of a term begins, by the kind of its first token.
-use Rattle.std.specs.Prelude.{ℕ, List}
+use Rattle.std.specs.Prelude.{ℕ, Bool, true, false, List}
 use Rattle.kola_text.specs.declared.alphabet.Sign.TheVariants.{Open, Less, Dot, LeftBrace}
 use Rattle.kola_text.specs.declared.alphabet.Word.TheVariants as w
 use Rattle.kola_text.specs.declared.parts.Lead as lead
@@ -65,3 +65,11 @@ with_name n (tails.Pred x) = TermP (with_pred (PMeta n) (pred_tail_view x))
 abbrev pub behind_open_tail : Scope → tail.OpenTail → Scope
 behind_open_tail s (tails.Fun x) = behind_fun_tail s (fun_tail_view x)
 behind_open_tail s (tails.Pred x) = behind_pred_tail s (pred_tail_view x)
+
+-- a function or a predicate may begin so, and is no bare name
+abbrev pub leads_part : Lead → Bool
+leads_part LOpen = true
+leads_part LFun = true
+leads_part LPred = true
+leads_part LConst = false
+leads_part (LName n) = false

@@ -7,6 +7,7 @@ mod parts;
 mod print;
 mod reading;
 mod scope;
+mod terms;
 mod tokens;
 
 pub use alphabet::{Kind, Sign, Word, kind_of};

@@ -54,7 +54,7 @@ impl NamesTaken {
 }
 
 /// What the context says of the name; `None` exactly where it says nothing.
-fn declared_in<'a>(vars: &'a MetaCtx, name: &str) -> Option<&'a MetaTy>
+pub(crate) fn declared_in<'a>(vars: &'a MetaCtx, name: &str) -> Option<&'a MetaTy>
     ensures { option_map meta_at result ≡ look_up name.now (context_of vars.now) }
 {
     for (known, meta) in vars.as_slice() {

@@ -1,10 +1,10 @@
 -- What stands behind a first operand, as the program keeps it, and the scope behind it.
 use Rattle.kola_term.specs.Terms.{FunTree, FIterate, FIter, FJoin, FNest, FUnnest, PredTree}
 use Rattle.kola_term.specs.TermView.{fun_tree, pred_tree}
-use Rattle.kola_text.specs.declared.reading.FunTail as fun
-use Rattle.kola_text.specs.declared.reading.FunTail.TheVariants as funs
-use Rattle.kola_text.specs.declared.reading.PredTail as pred
-use Rattle.kola_text.specs.declared.reading.PredTail.TheVariants as preds
+use Rattle.kola_text.specs.declared.functions.FunTail as fun
+use Rattle.kola_text.specs.declared.functions.FunTail.TheVariants as funs
+use Rattle.kola_text.specs.declared.functions.PredTail as pred
+use Rattle.kola_text.specs.declared.functions.PredTail.TheVariants as preds
 use Rattle.kola_text.specs.declared.alphabet.Word.{Word}
 use Rattle.kola_text.specs.declared.alphabet.Word.TheVariants as w
 use Rattle.kola_text.specs.Scopes.{Scope, behind_fun, behind_pred}

@@ -2,12 +2,12 @@
 #![tactic(auto)]
 
 mod alphabet;
+mod functions;
 mod literals;
 mod parts;
 mod print;
 mod reading;
 mod scope;
-mod terms;
 mod tokens;
 
 pub use alphabet::{Kind, Sign, Word, kind_of};

@@ -14,7 +14,7 @@ ghost use Rattle.kola_text.specs.Scopes.{Scope as Names, behind_term};
 ghost use Rattle.kola_text.specs.TermReaders.{below, step, readers, part_tail, name_tail_move};
 
 use crate::alphabet::{Kind, Sign, Word, kind_of};
-use crate::reading::{
+use crate::functions::{
     FunTail, PredTail, fun_of, fun_tail_of, pred_of, pred_tail_of, with_fun, with_pred,
 };
 use crate::scope::Scope;

@@ -1,5 +1,5 @@
 use Rattle.std.proofs.Common.{◌+◌, ◌*◌}
-use Rattle.kola_text.proofs.reading.+terms.Given as goal
+use Rattle.kola_text.proofs.functions.+terms.Given as goal
 
 -- of what is read with so many levels below, first what begins a term, then what it calls at once; one level below begins with less
 

@@ -1,7 +1,8 @@
 //! The loads.
 
 use kola_core::{Memory, Name, Names, Text};
-use kola_term::{Fun, MetaCtx, TypeFault, make, out_type};
+use kola_term::{Fun, MetaCtx, Term, TypeFault, make, out_type};
+use kola_text::{TextFault, print_term, read_term};
 use kola_values::{
     ClassDef, Db, Fields, Keys, ObjectDef, Schema, Set, Ty, Value, ValueFields, classes_ok,
 };
@@ -15,6 +16,7 @@ pub(crate) fn run_load(alloc: Global, name: &str, n: u32) -> Result<Option<usize
         "union" => union_of_two(alloc, n)?,
         "database" => database(alloc, n)?,
         "typing" => typing(alloc, n)?,
+        "text" => text_of_term(alloc, n)?,
         _ => return Ok(None),
     };
     Ok(Some(count))
@@ -159,4 +161,19 @@ fn typing(alloc: Global, n: u32) -> Result<usize, Memory> {
         }
     }
     Ok(typed)
+}
+
+/// The bytes of a function of at most n nodes as text, which is read and printed again twenty times.
+fn text_of_term(alloc: Global, n: u32) -> Result<usize, Memory> {
+    let term = Term::F(composed(alloc, n)?);
+    let vars = MetaCtx::new(alloc);
+    let mut text = print_term(alloc, &term)?;
+    for _ in 0..20 {
+        text = match read_term(alloc, text.as_slice(), &vars) {
+            Ok(read) => print_term(alloc, &read)?,
+            Err(TextFault::At { .. }) => return Ok(0),
+            Err(TextFault::Memory) => return Err(AllocError),
+        };
+    }
+    Ok(text.len())
 }

@@ -253,10 +253,9 @@ module _ {T A : Type 0} (p : ℕ → List T → Answer T A) (L : ℕ → A → L
       let moved = (good d).low.local w t r u y (ap (p d) (sym s) ∙ e) in
       no_ok (x, []) (fault y (t ∷ u)) (sym moved ∙ ap (p d) (sym (append_one w t u)) ∙ reads_all d x ((w ++ t ∷ []) ++ u) h)
 
-  whole_err : (d : ℕ) (ts : List T) (f : Fault T) (z : Answer T A) → p d ts ≡ z → (z >>= λ y. end_of y.0 y.1) ≡ Err f → IsFirstFault (Accepted L d) (Unlimited L) ts f
-  whole_err d ts f (Err g) e h =
-      let same : g ≡ f = cc in
-      let at : p d ts ≡ Err (fault f.why f.rest) = e ∙ ap (λ (k : Fault T). Err (fault k.why k.rest)) same in
+  -- where the front of a list is read, what is refused is refused at its first fault
+  pub front_fault : (d : ℕ) (ts : List T) (f : Fault T) → p d ts ≡ Err (fault f.why f.rest) → IsFirstFault (Accepted L d) (Unlimited L) ts f
+  front_fault d ts f at =
       let one = (good d).low.viable ts f at in
       record {
         before = one.text;
@@ -265,6 +264,11 @@ module _ {T A : Type 0} (p : ℕ → List T → Answer T A) (L : ℕ → A → L
         no_further = no_further_of d ts one.text f.rest f.why one.split at;
         cause = cause_of d ts one.text f.rest f.why one.split at;
       }
+
+  whole_err : (d : ℕ) (ts : List T) (f : Fault T) (z : Answer T A) → p d ts ≡ z → (z >>= λ y. end_of y.0 y.1) ≡ Err f → IsFirstFault (Accepted L d) (Unlimited L) ts f
+  whole_err d ts f (Err g) e h =
+      let same : g ≡ f = cc in
+      front_fault d ts f (e ∙ ap (λ (k : Fault T). Err (fault k.why k.rest)) same)
   whole_err d ts f (Ok y) e h = ended y.0 y.1 e h
     where
       over : (a : A) (t : T) (r : List T) → p d ts ≡ Ok (a, t ∷ r) → IsFirstFault (Accepted L d) (Unlimited L) ts (fault Unexpected (t ∷ r))

@@ -176,15 +176,17 @@ rounds_of u vs ms [] h = absurd (none_left ms h)
     none_left (m ∷ ms) h = h
 rounds_of u vs [] (t ∷ w) h = (zero, subst (λ k. RoundRest u vs k (Final (vs ++ [])) w) (sym h.0) (ap Final (append-nil vs), h.1))
 rounds_of u vs (v ∷ ms) (t ∷ w) h =
-    let more = rounds_of u (vs ++ v ∷ []) ms h.1.back h.1.second in
-    (suc more.0, record {
-      mid = Again (vs ++ v ∷ []);
-      front = t ∷ h.1.front;
-      back = h.1.back;
-      split = ap (λ (z : List Placed). t ∷ z) h.1.split;
-      first = subst (λ k. RoundRest u vs k (Again (vs ++ v ∷ [])) h.1.front) (sym h.0) (record { part = v; is = refl; spells = h.1.first });
-      second = subst (λ z. FewText (RoundText u) more.0 (vs ++ v ∷ []) (Final z) h.1.back) (append_assoc vs (v ∷ []) ms) more.1;
-    })
+    let more = rounds_of u (vs ++ v ∷ []) ms h.1.back h.1.second in (
+      suc more.0,
+      record {
+        mid = Again (vs ++ v ∷ []);
+        front = t ∷ h.1.front;
+        back = h.1.back;
+        split = ap (λ (z : List Placed). t ∷ z) h.1.split;
+        first = subst (λ k. RoundRest u vs k (Again (vs ++ v ∷ [])) h.1.front) (sym h.0) (record { part = v; is = refl; spells = h.1.first });
+        second = subst (λ z. FewText (RoundText u) more.0 (vs ++ v ∷ []) (Final z) h.1.back) (append_assoc vs (v ∷ []) ms) more.1;
+      },
+    )
 
 literals_to : (vs : List ValueTree) (w : List Placed) → Chained LiteralText (λ u. RoundsText (RoundText u) (u ∷ [])) vs w → LiteralsText vs w
 literals_to vs w c =
@@ -202,12 +204,12 @@ literals_good On =
 
 -- ---- constants
 
-abbrev NameRest : Bool → Bool → List ℕ → Lang Placed ConstTree
+abbrev pub NameRest : Bool → Bool → List ℕ → Lang Placed ConstTree
 NameRest true e n = Nothing (CMeta n)
 NameRest false true n = Nothing (CExtent n)
 NameRest false false n = λ x w. ⊥
 
-abbrev ConstRest : Scope → Kind → Lang Placed ConstTree
+abbrev pub ConstRest : Scope → Kind → Lang Placed ConstTree
 ConstRest s (KNumber z) = Nothing (CInt z)
 ConstRest s (KString b) = Nothing (CStr b)
 ConstRest s (KWord w.True) = Nothing (CBool true)
@@ -252,7 +254,7 @@ name_to s n true b p q x t w e h = subst (λ y. ConstText s y (t ∷ w)) (sym h.
 name_to s n false true p q x t w e h = subst (λ y. ConstText s y (t ∷ w)) (sym h.0) ((e, q), h.1)
 name_to s n false false p q x t w e h = absurd h
 
-const_heads : (s : Scope) → Heads kind (ConstRest s) (ConstText s)
+pub const_heads : (s : Scope) → Heads kind (ConstRest s) (ConstText s)
 const_heads s = record { to = to; from = from; empty = empty; some = record { tree = CStr []; text = alone (LString []); spells = (refl, tt) } }
   where
     to : (k : Kind) (x : ConstTree) (t : Placed) (w : List Placed) → kind t ≡ k → ConstRest s k x w → ConstText s x (t ∷ w)

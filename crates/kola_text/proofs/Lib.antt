@@ -6,3 +6,10 @@ mod LiteralSets
 mod LiteralRounds
 mod Leads
 mod Operands
+pub mod TermLaws
+pub mod PartLaws
+pub mod WholeLaws
+pub mod TopLaws
+pub mod ReadLaws
+mod ReadingExamples
+pub mod OneAnswer

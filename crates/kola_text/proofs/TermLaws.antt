@@ -1,5 +1,5 @@
 -- The readers of functions and of predicates read the grammar, where the readers one level below do.
-use Rattle.std.proofs.Common.{◌≡◌, ℕ, zero, suc, Bool, true, false, List, [], ◌∷◌, ◌++◌, Option, Some, None, refl, sym, ap, subst, ◌∙◌}
+use Rattle.std.proofs.Common.{◌≡◌, ℕ, zero, suc, Bool, true, false, not, List, [], ◌∷◌, ◌++◌, Option, Some, None, refl, sym, ap, subst, ◌∙◌}
 use Rattle.kola_base.specs.Placed.{Placed}
 use Rattle.kola_parse.specs.Reader.{Answer, Move, Stray, Deep, Goes, eat, done, made, pair}
 use Rattle.kola_parse.specs.Reading.{never, Inhabited, Good}
@@ -13,7 +13,7 @@ use Rattle.kola_text.specs.declared.alphabet.Sign.{Sign}
 use Rattle.kola_text.specs.declared.alphabet.Sign.TheVariants.{Open, Close, Less, Greater, Comma, Dot, At, And, Or, Not, Star}
 use Rattle.kola_text.specs.declared.alphabet.Word.TheVariants as w
 use Rattle.kola_text.specs.Alphabet.{Kind, KSign, KWord, KName, KNumber, KString, KOther}
-use Rattle.kola_text.specs.Scopes.{Scope, Declared, Fresh, names_fun, names_pred, behind_fun, behind_pred}
+use Rattle.kola_text.specs.Scopes.{Scope, Declared, Fresh, names_fun, names_pred, behind_fun, behind_pred, is_fresh}
 use Rattle.kola_text.specs.Grammar.{kind, ◌▸◌, LabelText, NameText, ConstText, TruthText, FunText, PredText}
 use Rattle.kola_text.specs.TermReaders.{Reader, sign, label_at, const_at, truth_at, Inner, FunTail, ByO, ByStar, with_fun, fun_tail_move, fun_tail, two_funs, pred_and_fun, three_parts, fun_move, PredTail, ByAt, ByAnd, ByOr, with_pred, pred_tail_move, pred_tail, pred_move}
 use Rattle.kola_text.proofs.Symbols.{sign_token, word_token, sign_is, word_is, sign_tests}
@@ -31,8 +31,8 @@ behind_sign s h = behind_good (sign s) (λ t. kind t ≡ KSign s) (sign_tests s)
 
 -- a predicate that is no bare name of a kind yet to be seen
 abbrev pub settled : Scope → PredTree → Bool
-settled (Fresh ns) (PMeta n) = false
-settled _ _ = true
+settled s (PMeta n) = not (is_fresh s)
+settled s _ = true
 
 -- the texts of functions and predicates; a bare fresh name stands as a function until an operator decides
 abbrev pub PartText : Scope → ℕ → Lang Placed TermTree
@@ -134,7 +134,7 @@ pub with_fun_text : (s : Scope) (d : ℕ) (f : FunTree) (x : FunTail) (t : Place
 with_fun_text s d f (ByO g) t w e h = (e, h)
 with_fun_text s d f (ByStar g) t w e h = (e, h)
 
-fun_to : (s : Scope) (n : ℕ) (k : Kind) (x : FunTree) (t : Placed) (w : List Placed) → kind t ≡ k → FunRest s n k x w → FunText s x n (t ∷ w)
+pub fun_to : (s : Scope) (n : ℕ) (k : Kind) (x : FunTree) (t : Placed) (w : List Placed) → kind t ≡ k → FunRest s n k x w → FunText s x n (t ∷ w)
 fun_to s n (KWord w.Id) x t w e h = subst (λ y. FunText s y n (t ∷ w)) (sym h.0) (e, h.1)
 fun_to s n (KWord w.Fst) x t w e h = subst (λ y. FunText s y n (t ∷ w)) (sym h.0) (e, h.1)
 fun_to s n (KWord w.Snd) x t w e h = subst (λ y. FunText s y n (t ∷ w)) (sym h.0) (e, h.1)
@@ -156,7 +156,7 @@ fun_to s (suc d) (KWord w.Unnest) x t w e h = subst (λ y. FunText s y (suc d) (
 fun_to s n (KName m) x t w e h = subst (λ y. FunText s y n (t ∷ w)) (sym h.1.0) ((e, h.0), h.1.1)
 fun_to s _ _ x t w e h = absurd h
 
-fun_from : (s : Scope) (n : ℕ) (x : FunTree) (t : Placed) (w : List Placed) → FunText s x n (t ∷ w) → FunRest s n (kind t) x w
+pub fun_from : (s : Scope) (n : ℕ) (x : FunTree) (t : Placed) (w : List Placed) → FunText s x n (t ∷ w) → FunRest s n (kind t) x w
 fun_from s n FId t w h = subst (λ k. FunRest s n k FId w) (sym h.0) (refl, h.1)
 fun_from s n FFst t w h = subst (λ k. FunRest s n k FFst w) (sym h.0) (refl, h.1)
 fun_from s n FSnd t w h = subst (λ k. FunRest s n k FSnd w) (sym h.0) (refl, h.1)
@@ -179,7 +179,8 @@ fun_from s (suc d) (FNest f g) t w h = subst (λ k. FunRest s (suc d) k (FNest f
 fun_from s (suc d) (FUnnest f g) t w h = subst (λ k. FunRest s (suc d) k (FUnnest f g) w) (sym h.0) (record { part = (f, g); is = refl; spells = h.1 })
 fun_from s zero _ t w h = absurd h
 
-fun_empty : (s : Scope) (n : ℕ) (x : FunTree) → FunText s x n [] → ⊥
+pub fun_empty : (s : Scope) (n : ℕ) (x : FunTree) → FunText s x n [] → ⊥
+fun_empty s n FId h = h
 fun_empty s zero _ h = h
 fun_empty s (suc d) _ h = h
 
@@ -269,7 +270,7 @@ with_pred_text s d p (ByAt f) t w e h = (e, h)
 with_pred_text s d p (ByAnd q) t w e h = (e, h)
 with_pred_text s d p (ByOr q) t w e h = (e, h)
 
-pred_to : (s : Scope) (n : ℕ) (k : Kind) (x : PredTree) (t : Placed) (w : List Placed) → kind t ≡ k → PredRest s n k x w → PredText s x n (t ∷ w)
+pub pred_to : (s : Scope) (n : ℕ) (k : Kind) (x : PredTree) (t : Placed) (w : List Placed) → kind t ≡ k → PredRest s n k x w → PredText s x n (t ∷ w)
 pred_to s n (KWord w.Eq) x t w e h = subst (λ y. PredText s y n (t ∷ w)) (sym h.0) (e, h.1)
 pred_to s n (KWord w.Lt) x t w e h = subst (λ y. PredText s y n (t ∷ w)) (sym h.0) (e, h.1)
 pred_to s n (KWord w.Le) x t w e h = subst (λ y. PredText s y n (t ∷ w)) (sym h.0) (e, h.1)
@@ -281,10 +282,11 @@ pred_to s (suc d) (KWord w.CP) x t w e h = subst (λ y. PredText s y (suc d) (t 
 pred_to s (suc d) (KWord w.Inv) x t w e h = subst (λ y. PredText s y (suc d) (t ∷ w)) (sym h.is) (e, h.spells)
 pred_to s (suc d) (KWord w.Ex) x t w e h = subst (λ y. PredText s y (suc d) (t ∷ w)) (sym h.is) (e, h.spells)
 pred_to s (suc d) (KWord w.Fa) x t w e h = subst (λ y. PredText s y (suc d) (t ∷ w)) (sym h.is) (e, h.spells)
+pred_to s zero (KSign Open) x t w e h = absurd h
 pred_to s n (KName m) x t w e h = subst (λ y. PredText s y n (t ∷ w)) (sym h.1.0) ((e, h.0), h.1.1)
 pred_to s _ _ x t w e h = absurd h
 
-pred_from : (s : Scope) (n : ℕ) (x : PredTree) (t : Placed) (w : List Placed) → PredText s x n (t ∷ w) → PredRest s n (kind t) x w
+pub pred_from : (s : Scope) (n : ℕ) (x : PredTree) (t : Placed) (w : List Placed) → PredText s x n (t ∷ w) → PredRest s n (kind t) x w
 pred_from s n PEq t w h = subst (λ k. PredRest s n k PEq w) (sym h.0) (refl, h.1)
 pred_from s n PLt t w h = subst (λ k. PredRest s n k PLt w) (sym h.0) (refl, h.1)
 pred_from s n PLe t w h = subst (λ k. PredRest s n k PLe w) (sym h.0) (refl, h.1)
@@ -301,7 +303,8 @@ pred_from s (suc d) (PEx p) t w h = subst (λ k. PredRest s (suc d) k (PEx p) w)
 pred_from s (suc d) (PFa p) t w h = subst (λ k. PredRest s (suc d) k (PFa p) w) (sym h.0) (record { part = p; is = refl; spells = h.1 })
 pred_from s zero _ t w h = absurd h
 
-pred_empty : (s : Scope) (n : ℕ) (x : PredTree) → PredText s x n [] → ⊥
+pub pred_empty : (s : Scope) (n : ℕ) (x : PredTree) → PredText s x n [] → ⊥
+pred_empty s n PEq h = h
 pred_empty s zero _ h = h
 pred_empty s (suc d) _ h = h
 

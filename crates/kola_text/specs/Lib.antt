@@ -12,3 +12,4 @@ pub mod TailViews
 pub mod Heads
 pub mod Leads
 pub mod Operands
+pub mod Starts

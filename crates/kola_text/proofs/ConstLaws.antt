@@ -176,15 +176,17 @@ rounds_of u vs ms [] h = absurd (none_left ms h)
     none_left (m ∷ ms) h = h
 rounds_of u vs [] (t ∷ w) h = (zero, subst (λ k. RoundRest u vs k (Final (vs ++ [])) w) (sym h.0) (ap Final (append-nil vs), h.1))
 rounds_of u vs (v ∷ ms) (t ∷ w) h =
-    let more = rounds_of u (vs ++ v ∷ []) ms h.1.back h.1.second in
-    (suc more.0, record {
-      mid = Again (vs ++ v ∷ []);
-      front = t ∷ h.1.front;
-      back = h.1.back;
-      split = ap (λ (z : List Placed). t ∷ z) h.1.split;
-      first = subst (λ k. RoundRest u vs k (Again (vs ++ v ∷ [])) h.1.front) (sym h.0) (record { part = v; is = refl; spells = h.1.first });
-      second = subst (λ z. FewText (RoundText u) more.0 (vs ++ v ∷ []) (Final z) h.1.back) (append_assoc vs (v ∷ []) ms) more.1;
-    })
+    let more = rounds_of u (vs ++ v ∷ []) ms h.1.back h.1.second in (
+      suc more.0,
+      record {
+        mid = Again (vs ++ v ∷ []);
+        front = t ∷ h.1.front;
+        back = h.1.back;
+        split = ap (λ (z : List Placed). t ∷ z) h.1.split;
+        first = subst (λ k. RoundRest u vs k (Again (vs ++ v ∷ [])) h.1.front) (sym h.0) (record { part = v; is = refl; spells = h.1.first });
+        second = subst (λ z. FewText (RoundText u) more.0 (vs ++ v ∷ []) (Final z) h.1.back) (append_assoc vs (v ∷ []) ms) more.1;
+      },
+    )
 
 literals_to : (vs : List ValueTree) (w : List Placed) → Chained LiteralText (λ u. RoundsText (RoundText u) (u ∷ [])) vs w → LiteralsText vs w
 literals_to vs w c =

@@ -5,5 +5,12 @@ pub mod Grammar
 pub mod TermReaders
 pub mod AlphabetViews
 pub mod Accepted
+pub mod ScopeViews
+pub mod ScopeCode
+pub mod LiteralSets
+pub mod TailViews
+pub mod Heads
+pub mod Leads
+pub mod Operands
 pub mod Starts
 pub mod Readable

@@ -67,7 +67,11 @@ fn texts_are_refused_at_their_first_fault(rt: HostRuntime) -> Result<(), Fail> {
         ("union(", 5, TextWhy::Unexpected),
         ("rule", 0, TextWhy::Unexpected),
         ("K(\"a", 2, TextWhy::Lex(LexWhy::OpenString)),
-        ("K(9223372036854775808)", 2, TextWhy::Lex(LexWhy::NumberTooLarge)),
+        (
+            "K(9223372036854775808)",
+            2,
+            TextWhy::Lex(LexWhy::NumberTooLarge),
+        ),
     ] {
         let found = refusal(&rt, text, &vars);
         assert_eq!(rt; found, Some(TextFault::At { at, why }));

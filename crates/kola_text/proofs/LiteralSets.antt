@@ -1,5 +1,5 @@
 -- Literals of one type may stand together in a set constant.
-use Rattle.std.proofs.Common.{◌≡◌, ◌≤ℤ◌, int_le, ℤ, pos, negsuc, ◌&&◌, true, List, [], ◌∷◌, Option, Some, None, IsSome, refl, sym, ap, subst, ◌∙◌, arith}
+use Rattle.std.proofs.Common.{◌≡◌, ◌≤ℤ◌, int_le, ℤ, pos, negsuc, ◌&&◌, true, List, [], ◌∷◌, Option, Some, None, IsSome, refl, sym, subst, ◌∙◌, arith}
 use Rattle.std.proofs.lemmas.Int.{ints}
 use Rattle.std.specs.declared.cmp.Ordering.{Ordering}
 use Rattle.std.specs.declared.cmp.Ordering.TheVariants.{Less, Equal, Greater}

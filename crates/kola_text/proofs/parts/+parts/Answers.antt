@@ -1,7 +1,7 @@
-use Rattle.std.proofs.Common.{List, sym, ap, ◌∙◌}
+use Rattle.std.proofs.Common.{sym, ap, ◌∙◌}
 use Rattle.kola_base.specs.Placed.{Placed}
 use Rattle.kola_base.specs.LexemeViews.{placed_view}
-use Rattle.kola_parse.specs.Reader.{Answer, ◌>>=◌, then}
+use Rattle.kola_parse.specs.Reader.{Answer, ◌>>=◌}
 use Rattle.kola_term.specs.Terms.{TermTree}
 use Rattle.kola_term.specs.TermView.{fun_tree, pred_tree, term_tree}
 use Rattle.kola_text.specs.Leads.{lead_of, lead_view}

@@ -1,9 +1,9 @@
 -- Which names may stand where: in a term the variables of a context and the extents, in a pattern each name once.
-use Rattle.std.specs.Prelude.{ℕ, Bool, true, false, not, List, [], ◌∷◌, ◌++◌, Option, Some, None}
+use Rattle.std.specs.Prelude.{ℕ, Bool, true, false, not, List, [], ◌∷◌, ◌++◌, Option, Some}
 use Rattle.kola_values.specs.Databases.{look_up}
 use Rattle.kola_values.specs.Schemas.{is_listed}
 use Rattle.kola_term.specs.Typing.{MetaTree, MFun, MPred, MConst, Context}
-use Rattle.kola_term.specs.Terms.{ConstTree, CMeta, FunTree, FId, FFst, FSnd, FFlat, FUnion, FIsect, FMinus, FAttr, FComp, FPair, FTimes, FK, FC, FIf, FIterate, FIter, FJoin, FNest, FUnnest, FMeta, PredTree, PEq, PLt, PLe, PMember, PAt, PAnd, POr, PNot, PInv, PKP, PCP, PEx, PFa, PMeta, TermTree, TermF, TermP, TermC}
+use Rattle.kola_term.specs.Terms.{ConstTree, CMeta, FunTree, FComp, FPair, FTimes, FK, FC, FIf, FIterate, FIter, FJoin, FNest, FUnnest, FMeta, PredTree, PAt, PAnd, POr, PNot, PInv, PCP, PEx, PFa, PMeta, TermTree, TermF, TermP, TermC}
 
 pub data Scope : Type 0 where
   -- the variables that a context declares, and the extents

@@ -1,9 +1,9 @@
 -- A text that is accepted has no first fault, and no text has two.
-use Rattle.std.proofs.Common.{◌≡◌, ℕ, List, [], ◌∷◌, ◌++◌, refl, sym, ap, subst, ◌∙◌, append_assoc}
+use Rattle.std.proofs.Common.{◌≡◌, List, [], ◌∷◌, ◌++◌, refl, sym, ap, subst, ◌∙◌, append_assoc}
 use Rattle.std.proofs.lemmas.List.{append-nil}
 use Rattle.kola_parse.specs.declared.why.Why.{Why}
 use Rattle.kola_parse.specs.declared.why.Why.TheVariants.{Unexpected, TooDeep}
-use Rattle.kola_parse.specs.Reader.{Fault, fault}
+use Rattle.kola_parse.specs.Reader.{Fault}
 use Rattle.kola_parse.specs.Faults.{Begins, Through, IsCause, IsFirstFault}
 
 -- what is accepted goes through each of its tokens and its end

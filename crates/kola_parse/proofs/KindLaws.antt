@@ -1,10 +1,10 @@
 -- The laws of readers that go by what a token is, and by levels.
 use Rattle.std.proofs.Common.{◌≡◌, ℕ, zero, suc, Bool, true, false, List, [], ◌∷◌, ◌++◌, Option, Some, None, refl, sym, ap, subst, ◌∙◌}
 use Rattle.std.proofs.lemmas.List.{append-nil}
-use Rattle.kola_parse.specs.Reader.{Answer, Move, Stray, Deep, Goes, then, eat, done}
-use Rattle.kola_parse.specs.Reading.{never, Inhabited, Reads, Good}
+use Rattle.kola_parse.specs.Reader.{Answer, Move, eat, done}
+use Rattle.kola_parse.specs.Reading.{never, Inhabited, Good}
 use Rattle.kola_parse.specs.Texts.{◌·◌, ends, Nothing, Chained, Led}
-use Rattle.kola_parse.specs.Moves.{NoText, MoveGood}
+use Rattle.kola_parse.specs.Moves.{MoveGood}
 use Rattle.kola_parse.specs.Kinds.{Lang, leads, when, expect, ahead, behind, deeper, Deeper}
 use Rattle.kola_parse.proofs.ReaderLaws.{nil_of}
 use Rattle.kola_parse.proofs.GoodReaders.{done_good, next_good, eat_good, good_as}

@@ -1,5 +1,5 @@
 -- Readers that go by what a token is, and by how many levels are left.
-use Rattle.std.specs.Prelude.{◌≡◌, ℕ, zero, suc, Bool, true, false, List, [], ◌∷◌, Option, Some, None}
+use Rattle.std.specs.Prelude.{ℕ, zero, suc, Bool, true, false, List, [], ◌∷◌, Option, Some, None}
 use Rattle.kola_parse.specs.Reader.{Answer, Move, Stray, Deep, Goes, then, eat, done}
 
 -- texts, with the values that they spell

@@ -1,0 +1,4 @@
+pub mod Json
+pub mod Written
+pub mod Loading
+pub mod Loaded

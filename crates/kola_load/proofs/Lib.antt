@@ -1,1 +1,6 @@
+pub mod MemberNames
+pub mod JsonParts
+pub mod IdTables
+pub mod Walks
+pub mod Answering
 mod LoadingExamples

@@ -2,3 +2,5 @@ pub mod Json
 pub mod Written
 pub mod Loading
 pub mod Loaded
+pub mod Calls
+pub mod Ids

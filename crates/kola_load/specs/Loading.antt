@@ -51,26 +51,28 @@ array_fault k (Some m) = option_or (unless (is_array m) (NotAnArray k.extent)) (
 abbrev pub extent_fault : Data → Class → Test
 extent_fault j k = array_fault k (get k.extent j)
 
--- ---- phase 3: each member of an object but `#` is an attribute; each attribute has a member, of its type, of which each reference names an object
+-- ---- phase 3: each member of an object but `#` is an attribute; each attribute has a member, of its type, of which each reference is there
 
 abbrev pub label_fault : Class → Data → Test
 label_fault k d = option_map (UnknownAttribute k.name (id_in d)) (least (names_beside (codes "#" ∷ names_of k.attributes) d))
 
-abbrev pub reference_fault : Classes → Data → Class → Data → List ℕ → List (List ℕ × ℕ) → Test
-reference_fault S j k d a rs = option_map (λ r. NoSuchObject k.name (id_in d) a r.1) (find (λ r. not (is_there S j r)) rs)
+-- `there` says whether a class has an object of an id
+module _ (there : List ℕ × ℕ → Bool) where
+  abbrev pub reference_fault : Class → Data → List ℕ → List (List ℕ × ℕ) → Test
+  reference_fault k d a rs = option_map (λ r. NoSuchObject k.name (id_in d) a r.1) (find (λ r. not (there r)) rs)
 
-abbrev pub value_fault : Classes → Data → Class → Data → List ℕ × TypeTree → Option Data → Test
-value_fault S j k d a None = Some (MissingAttribute k.name (id_in d) a.0)
-value_fault S j k d a (Some v) = option_or (unless (is_some (value_of a.1 v)) (WrongType k.name (id_in d) a.0)) (reference_fault S j k d a.0 (references a.1 v))
+  abbrev pub value_fault : Class → Data → List ℕ × TypeTree → Option Data → Test
+  value_fault k d a None = Some (MissingAttribute k.name (id_in d) a.0)
+  value_fault k d a (Some v) = option_or (unless (is_some (value_of a.1 v)) (WrongType k.name (id_in d) a.0)) (reference_fault k d a.0 (references a.1 v))
 
-abbrev pub attribute_fault : Classes → Data → Class → Data → List ℕ × TypeTree → Test
-attribute_fault S j k d a = value_fault S j k d a (get a.0 d)
+  abbrev pub attribute_fault : Class → Data → List ℕ × TypeTree → Test
+  attribute_fault k d a = value_fault k d a (get a.0 d)
 
-abbrev pub object_fault : Classes → Data → Class → Data → Test
-object_fault S j k d = option_or (label_fault k d) (first_of (attribute_fault S j k d) k.attributes)
+  abbrev pub object_fault : Class → Data → Test
+  object_fault k d = option_or (label_fault k d) (first_of (attribute_fault k d) k.attributes)
 
-abbrev pub objects_fault : Classes → Data → Class → Test
-objects_fault S j k = first_of (object_fault S j k) (extent_of j k)
+  abbrev pub objects_fault : Data → Class → Test
+  objects_fault j k = first_of (object_fault k) (extent_of j k)
 
 -- ---- phase 4: no object agrees with an earlier one on all attributes of a key; keys count from 1
 
@@ -86,7 +88,7 @@ keys_fault j k = first_among (key_fault j k) [] k.keys
 -- ---- the phases one after the other, each over the classes in the order of the schema
 
 abbrev pub db_fault : Classes → Data → Test
-db_fault S j = option_or (members_fault S j) (option_or (first_of (extent_fault j) S) (option_or (first_of (objects_fault S j) S) (first_of (keys_fault j) S)))
+db_fault S j = option_or (members_fault S j) (option_or (first_of (extent_fault j) S) (option_or (first_of (objects_fault (is_there S j) j) S) (first_of (keys_fault j) S)))
 
 -- the first fault, or else the objects
 abbrev pub or_objects : Test → Objects → Result Objects DbFault

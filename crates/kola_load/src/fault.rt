@@ -1,5 +1,6 @@
 //! Why a text is no database of a schema.
-use kola_core::{Name, Text};
+use kola_core::{Memory, Name, Text};
+use std::alloc::AllocFailed;
 use thiserror::Error;
 
 /// Why a text is no database of a schema: the first fault of its JSON value, or why it has none.
@@ -104,4 +105,26 @@ pub enum DbFault {
     /// Memory is wanted.
     #[error("Memory")]
     Memory,
+}
+
+impl From<Memory> for DbFault {
+    ghost use Rattle.std.specs.Prelude.{◌≡◌};
+    ghost use Rattle.kola_load.specs.declared.fault.DbFault.TheVariants as fault;
+
+    ghost from_gives = { λ _ e. e ≡ fault.Memory };
+
+    fn from(_wanting: Memory) -> DbFault {
+        DbFault::Memory
+    }
+}
+
+impl<T: Drop> From<AllocFailed<T>> for DbFault {
+    ghost use Rattle.std.specs.Prelude.{◌≡◌};
+    ghost use Rattle.kola_load.specs.declared.fault.DbFault.TheVariants as fault;
+
+    ghost from_gives = { λ _ e. e ≡ fault.Memory };
+
+    fn from(_wanting: AllocFailed<T>) -> DbFault {
+        DbFault::Memory
+    }
 }

@@ -1,7 +1,11 @@
 //! Databases from their text.
 #![tactic(auto)]
 
+mod elements;
+mod extents;
 mod fault;
+mod ids;
 mod json;
+mod names;
 
 pub use fault::DbFault;

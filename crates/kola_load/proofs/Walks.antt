@@ -2,7 +2,7 @@
 use Rattle.std.proofs.Common.{◌≡◌, ℕ, ◌+◌, ◌<◌, ◌≤◌, List, [], ◌∷◌, Some, None, length, get_or, map, take, drop, sym, ap, subst, ◌∙◌, arith, refl}
 use Rattle.std.specs.Option.{option_or}
 use Rattle.std.proofs.lemmas.List.{drop_all}
-use Rattle.kola_core.proofs.Lists.{left_less, taken_more, length_seen}
+use Rattle.kola_core.proofs.Lists.{left_less, taken_more, length_seen, longer, seen}
 use Rattle.kola_load.specs.Loading.{Test, first_of, first_among}
 
 module _ {X A : Type 0} (v : X → A) (xs : List X) (us : List A) (e : map v xs ≡ us) (i : ℕ) where
@@ -46,3 +46,7 @@ map_itself (x ∷ xs) = ap (λ l. x ∷ l) (map_itself xs)
 -- the thing at a place of a list that is seen as it is
 pub at_place : {A : Type 0} (xs us : List A) (i : ℕ) (x : A) → xs ≡ us → i < length xs → x ≡ get_or xs i x → (i < length us) × (x ≡ get_or us i x)
 at_place xs us i x e p h = (subst (λ l. i < length l) e p, h ∙ ap (λ l. get_or l i x) e)
+
+-- the thing at a place of a list, as it is seen
+pub seen_at : {X A : Type 0} (v : X → A) (xs : List X) (i : ℕ) (x : X) → i < length xs → x ≡ get_or xs i x → (i < length (map v xs)) × (v x ≡ get_or (map v xs) i (v x))
+seen_at v xs i x p h = (longer v xs (map v xs) i refl p, sym (seen v xs (map v xs) i x refl p h))

@@ -7,5 +7,6 @@ mod fault;
 mod ids;
 mod json;
 mod names;
+mod values;
 
 pub use fault::DbFault;

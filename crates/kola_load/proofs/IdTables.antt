@@ -11,12 +11,12 @@ use Rattle.std.proofs.lemmas.Map.Text.{btree_map_updates_text}
 use Rattle.serde_json.specs.Data.{Data}
 use Rattle.kola_values.specs.Databases.{Class, Classes}
 use Rattle.kola_values.specs.Schemas.{class_named, class_names, is_listed}
-use Rattle.std.proofs.lemmas.List.{take-map, take_more}
+use Rattle.std.proofs.lemmas.List.{take_more}
 use Rattle.kola_values.specs.Schemas.{are_distinct}
 use Rattle.kola_values.proofs.Anys.{bool_same}
 use Rattle.kola_values.proofs.NameTests.{both_false}
-use Rattle.kola_values.proofs.Places.{fresh}
 use Rattle.kola_values.proofs.SameTypes.{name_equal, name_itself}
+use Rattle.kola_load.proofs.ClassPlaces.{new_name}
 use Rattle.kola_load.specs.Ids.{AreIds, AreAllIds, there}
 use Rattle.kola_load.specs.Written.{is_there, is_taken, extent_of}
 use Rattle.kola_load.specs.declared.ids.Ids.{Ids}
@@ -57,5 +57,5 @@ module _ (S : Classes) (j : Data) (i : ℕ) (k : Class) (p : i < length S) (e : 
       → ((r : List ℕ × ℕ) → there u r ≡ cond (bytes_eq k.name r.0) (contains nat_cmp ids r.1) (there t r)) → AreAllIds u (take (i + 1) S) j
   class_more t u ids all these h r =
       h r ∙ (λ q. cond (bytes_eq k.name r.0) (these r.1 q) (all r q))
-      ∙ sym (there_more j k r (take i S) (ap (is_listed k.name) (sym (take-map (λ (c : Class). c.name) i S)) ∙ fresh (λ (c : Class). c.name) S i k p e d))
+      ∙ sym (there_more j k r (take i S) (new_name S i k p e d))
       ∙ ap (λ T. is_there T j r) (sym (take_more S i k p ∙ ap (λ c. take i S ++ c ∷ []) (sym e)))

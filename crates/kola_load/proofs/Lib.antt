@@ -1,5 +1,6 @@
 pub mod MemberNames
 pub mod JsonParts
+pub mod ClassPlaces
 pub mod IdTables
 pub mod ValueLoops
 pub mod Walks

@@ -1,5 +1,5 @@
 -- The least of the names that pass a test is the first of them where the names rise, as those of an object's members do.
-use Rattle.std.proofs.Common.{◌≡◌, ℕ, Bool, true, false, cond, ◌||◌, List, [], ◌∷◌, map, filter, Option, Some, None, refl, sym, ap, subst, ◌∙◌, String, string_bytes, Less, Greater, Ordering}
+use Rattle.std.proofs.Common.{◌≡◌, ℕ, Bool, true, false, cond, ◌||◌, List, [], ◌∷◌, map, filter, Option, Some, None, option_and_then, refl, sym, ap, subst, ◌∙◌, String, string_bytes, Less, Greater, Ordering}
 use Rattle.std.specs.Bool.{⊤}
 use Rattle.std.specs.List.{AllByRecursion}
 use Rattle.std.specs.List.Sorted.{IsStrictlySortedBy}
@@ -13,8 +13,9 @@ use Rattle.std.specs.declared.alloc.Global.{Global}
 use Rattle.serde_json.specs.View.{members_view}
 use Rattle.serde_json.specs.declared.value.Value.{Value}
 use Rattle.kola_values.specs.Order.{name_cmp}
-use Rattle.kola_values.specs.Databases.{Classes, extent_class}
-use Rattle.kola_values.specs.Schemas.{is_listed, extent_names}
+use Rattle.kola_values.specs.Databases.{Class, Classes, look_up, attribute_type, extent_class}
+use Rattle.kola_values.specs.Schemas.{is_listed, names_of, class_named, extent_names}
+use Rattle.kola_values.proofs.Schemas.{attribute_of_class}
 use Rattle.kola_load.specs.Json.{names_of_members, lesser, least}
 
 -- ---- the least of a list that rises
@@ -93,3 +94,20 @@ listed_class (k ∷ S) e = at (bytes_eq e k.extent) (listed_class S e)
     at : (b : Bool) → is_some (extent_class S e) ≡ is_listed e (extent_names S) → is_some (cond b (Some k.name) (extent_class S e)) ≡ (b || is_listed e (extent_names S))
     at true h = refl
     at false h = h
+
+-- ---- attributes
+
+looked_up : {A : Type 0} (es : List (List ℕ × A)) (a : List ℕ) → is_some (look_up a es) ≡ is_listed a (names_of es)
+looked_up [] a = refl
+looked_up (e ∷ es) a = at (bytes_eq a e.0) (looked_up es a)
+  where
+    at : (b : Bool) → is_some (look_up a es) ≡ is_listed a (names_of es) → is_some (cond b (Some e.1) (look_up a es)) ≡ (b || is_listed a (names_of es))
+    at true h = refl
+    at false h = h
+
+pub listed_attribute : (S : Classes) (c a : List ℕ) → is_some (attribute_type S c a) ≡ is_listed a (option_map_or (λ (k : Class). names_of k.attributes) (class_named S c) [])
+listed_attribute S c a = ap is_some (sym (attribute_of_class S c a)) ∙ at (class_named S c)
+  where
+    at : (o : Option Class) → is_some (option_and_then (λ (k : Class). look_up a k.attributes) o) ≡ is_listed a (option_map_or (λ (k : Class). names_of k.attributes) o [])
+    at None = refl
+    at (Some k) = looked_up k.attributes a

@@ -1,7 +1,7 @@
 -- Loops over the elements of an array, of which each writes a value or not, or has a reference to nothing or not.
-use Rattle.std.proofs.Common.{◌≡◌, ℕ, ◌+◌, ◌<◌, ◌≤◌, Bool, true, false, cond, List, [], ◌∷◌, ◌++◌, Option, Some, None, length, get_or, map, flat_map, take, drop, option_map, sym, ap, ◌∙◌, arith, refl}
+use Rattle.std.proofs.Common.{◌≡◌, ℕ, ◌+◌, ◌<◌, ◌≤◌, Bool, List, [], ◌∷◌, ◌++◌, Option, Some, None, length, get_or, map, flat_map, drop, option_map, sym, ap, ◌∙◌, arith, refl}
 use Rattle.std.specs.List.{find}
-use Rattle.std.specs.Option.{option_or, option_and_then}
+use Rattle.std.specs.Option.{option_or}
 use Rattle.std.proofs.lemmas.List.Folds.{find-append}
 use Rattle.std.proofs.lemmas.List.{drop_all, drop_more, map-append, append_assoc, append-nil}
 use Rattle.kola_core.proofs.Lists.{left_less, length_seen}

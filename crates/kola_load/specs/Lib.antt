@@ -4,3 +4,4 @@ pub mod Loading
 pub mod Loaded
 pub mod Calls
 pub mod Ids
+pub mod Labels

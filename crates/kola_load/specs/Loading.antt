@@ -79,16 +79,16 @@ module _ (there : List ℕ × ℕ → Bool) where
 abbrev pub repeat_fault : Class → ℕ → List (List ℕ) → Objects → Object → Test
 repeat_fault k n key before o = option_map (λ (p : Object). KeyRepeats k.name n p.id o.id) (find (λ (p : Object). list_all (agree_at p o) key) before)
 
-abbrev pub key_fault : Data → Class → List (List (List ℕ)) → List (List ℕ) → Test
-key_fault j k before key = first_among (repeat_fault k (length before + 1) key) [] (objects_in j k)
+abbrev pub key_fault : Objects → Class → List (List (List ℕ)) → List (List ℕ) → Test
+key_fault os k before key = first_among (repeat_fault k (length before + 1) key) [] os
 
-abbrev pub keys_fault : Data → Class → Test
-keys_fault j k = first_among (key_fault j k) [] k.keys
+abbrev pub keys_fault : Class → Objects → Test
+keys_fault k os = first_among (key_fault os k) [] k.keys
 
 -- ---- the phases one after the other, each over the classes in the order of the schema
 
 abbrev pub db_fault : Classes → Data → Test
-db_fault S j = option_or (members_fault S j) (option_or (first_of (extent_fault j) S) (option_or (first_of (objects_fault (is_there S j) j) S) (first_of (keys_fault j) S)))
+db_fault S j = option_or (members_fault S j) (option_or (first_of (extent_fault j) S) (option_or (first_of (objects_fault (is_there S j) j) S) (first_of (λ k. keys_fault k (objects_in j k)) S)))
 
 -- the first fault, or else the objects
 abbrev pub or_objects : Test → Objects → Result Objects DbFault

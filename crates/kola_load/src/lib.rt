@@ -7,6 +7,7 @@ mod fault;
 mod ids;
 mod json;
 mod names;
+mod objects;
 mod values;
 
 pub use fault::DbFault;

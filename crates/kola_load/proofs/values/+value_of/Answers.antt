@@ -1,12 +1,12 @@
-use Rattle.std.proofs.Common.{◌≡◌, ◌+◌, IfOk, Some, None, map, option_map, length, sym, ap, subst, ◌∙◌, arith}
+use Rattle.std.proofs.Common.{◌≡◌, ◌+◌, IfOk, Some, map, option_map, sym, ap, subst, ◌∙◌, arith}
 use Rattle.std.proofs.lemmas.List.{length-map}
 use Rattle.serde_json.specs.View.{view, items_view}
 use Rattle.serde_json.specs.Find.{as_array}
-use Rattle.kola_values.specs.Sets.{set_of, canon}
+use Rattle.kola_values.specs.Sets.{set_of}
 use Rattle.kola_values.specs.Types.{TSet}
 use Rattle.kola_values.specs.Values.{VSet, of_items}
 use Rattle.kola_values.specs.Views.{type_tree, value_tree}
-use Rattle.kola_load.specs.Written.{whole, value_of}
+use Rattle.kola_load.specs.Written.{value_of}
 use Rattle.kola_load.proofs.JsonParts.{set_value}
 use Rattle.kola_load.proofs.ValueLoops.{AreSoFar, none_written, one_written, all_written}
 use Rattle.kola_load.proofs.Walks.{seen_at}

@@ -2,6 +2,7 @@ pub mod MemberNames
 pub mod JsonParts
 pub mod ClassPlaces
 pub mod IdTables
+pub mod SeenKeys
 pub mod ValueLoops
 pub mod Walks
 pub mod Answering

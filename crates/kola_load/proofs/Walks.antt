@@ -1,5 +1,5 @@
 -- Loops that look for the first fault of the things of a list.
-use Rattle.std.proofs.Common.{◌≡◌, ℕ, ◌+◌, ◌<◌, ◌≤◌, List, [], ◌∷◌, Some, None, length, get_or, map, take, drop, sym, ap, subst, ◌∙◌, arith, refl}
+use Rattle.std.proofs.Common.{◌≡◌, ℕ, zero, suc, ◌+◌, ◌<◌, ◌≤◌, List, [], ◌∷◌, Some, None, length, get_or, map, take, drop, sym, ap, subst, ◌∙◌, arith, refl}
 use Rattle.std.specs.Option.{option_or}
 use Rattle.std.proofs.lemmas.List.{drop_all}
 use Rattle.kola_core.proofs.Lists.{left_less, taken_more, length_seen, longer, seen}
@@ -50,3 +50,10 @@ at_place xs us i x e p h = (subst (λ l. i < length l) e p, h ∙ ap (λ l. get_
 -- the thing at a place of a list, as it is seen
 pub seen_at : {X A : Type 0} (v : X → A) (xs : List X) (i : ℕ) (x : X) → i < length xs → x ≡ get_or xs i x → (i < length (map v xs)) × (v x ≡ get_or (map v xs) i (v x))
 seen_at v xs i x p h = (longer v xs (map v xs) i refl p, sym (seen v xs (map v xs) i x refl p h))
+
+-- the things at one place of two lists that are seen alike
+pub seen_alike : {X Y A : Type 0} (f : X → A) (g : Y → A) (xs : List X) (ys : List Y) (i : ℕ) (x : X) (y : Y) → map f xs ≡ map g ys → i < length xs → i < length ys → x ≡ get_or xs i x → y ≡ get_or ys i y → f x ≡ g y
+seen_alike f g [] ys i x y e p q h k = absurd (omega arith)
+seen_alike f g (u ∷ us) [] i x y e p q h k = absurd (omega arith)
+seen_alike f g (u ∷ us) (w ∷ ws) zero x y e p q h k = ap f h ∙ (let r : f u ≡ g w = cc in r) ∙ ap g (sym k)
+seen_alike f g (u ∷ us) (w ∷ ws) (suc i) x y e p q h k = seen_alike f g us ws i x y (cc) (omega arith) (omega arith) h k

@@ -5,3 +5,4 @@ pub mod Loaded
 pub mod Calls
 pub mod Ids
 pub mod Labels
+pub mod KeyViews

@@ -6,6 +6,7 @@ mod extents;
 mod fault;
 mod ids;
 mod json;
+mod keys;
 mod names;
 mod objects;
 mod values;

@@ -1,0 +1,24 @@
+-- The values of an object at a key, as the program keeps them, and their order.
+use Rattle.std.specs.Prelude.{List, map}
+use Rattle.std.specs.declared.cmp.Ordering.{Ordering}
+use Rattle.std.specs.Ordering.{eq_by_cmp}
+use Rattle.std.specs.Cmp.{IsTotalOrder, IsEquivalence, on_total}
+use Rattle.std.proofs.lemmas.Cmp.{lists_total, eq_by_cmp_equiv}
+use Rattle.kola_values.specs.Values.{ValueTree}
+use Rattle.kola_values.specs.KeyedObjects.{cmp_keyed}
+use Rattle.kola_values.specs.Models.Total.{cmp_total}
+use Rattle.kola_values.specs.Views.{value_at}
+use Rattle.kola_load.specs.declared.keys.KeyOf.{KeyOf}
+
+abbrev pub key_tree : KeyOf → List ValueTree
+key_tree k = map value_at k.values.items
+
+-- they are ordered as lists of values
+abbrev pub key_cmp : KeyOf → KeyOf → Ordering
+key_cmp x y = cmp_keyed (key_tree x) (key_tree y)
+
+pub key_total : IsTotalOrder key_cmp
+key_total = on_total key_tree (lists_total cmp_total)
+
+pub key_equiv : IsEquivalence (eq_by_cmp key_cmp)
+key_equiv = eq_by_cmp_equiv key_total

@@ -4,6 +4,8 @@ pub mod ClassPlaces
 pub mod IdTables
 pub mod SeenKeys
 pub mod ValueLoops
+pub mod NoFault
+pub mod Accepted
 pub mod Walks
 pub mod Answering
 mod LoadingExamples

@@ -13,6 +13,7 @@ use Rattle.kola_values.specs.Databases.{Class, Object, Objects}
 use Rattle.kola_values.specs.KeyedObjects.{value_at_name, cmp_keyed, same_keyed}
 use Rattle.kola_values.specs.MeetsTests.{agree_at}
 use Rattle.kola_values.proofs.KeyedObjects.{cmp_keyed_total, same_keyed_flips}
+use Rattle.kola_load.proofs.NoFault.{none_mapped}
 use Rattle.kola_load.specs.KeyViews.{key_tree, key_cmp}
 use Rattle.kola_load.specs.Loading.{Test, repeat_fault}
 use Rattle.kola_load.specs.declared.fault.DbFault.{DbFault}
@@ -24,10 +25,6 @@ use Rattle.kola_load.specs.declared.keys.KeyOf.{KeyOf}
 find_alike : {A : Type 0} (p q : A → Bool) (xs : List A) → ((x : A) → p x ≡ q x) → find p xs ≡ find q xs
 find_alike p q [] f = refl
 find_alike p q (x ∷ xs) f = λ j. cond (f x j) (Some x) (find_alike p q xs f j)
-
-none_mapped : {A B : Type 0} (f : A → B) (o : Option A) → option_map f o ≡ None → o ≡ None
-none_mapped f None e = refl
-none_mapped f (Some x) e = absurd (cc)
 
 or_none : {A : Type 0} (o : Option A) → option_or o None ≡ o
 or_none None = refl

@@ -1,14 +1,14 @@
 -- The objects that a JSON value without a fault writes meet the schema.
-use Rattle.std.proofs.Common.{◌≡◌, ◌⊎◌, inl, inr, ℕ, ◌+◌, ◌<◌, ◌==◌, Bool, true, false, not, cond, ltb, true≢false, ◌&&◌, ◌||◌, List, [], ◌∷◌, ◌++◌, Option, Some, None, map, flat_map, option_map, option_and_then, length, is_some, refl, sym, ap, subst, ◌∙◌, pos, negsuc, nat_le, if◌then◌else◌, ℤ, codes, unwrap_or, arith}
+use Rattle.std.proofs.Common.{◌≡◌, inl, inr, ℕ, ◌+◌, ◌<◌, ◌==◌, Bool, true, false, not, cond, ltb, true≢false, ◌&&◌, ◌||◌, List, [], ◌∷◌, Option, Some, None, map, flat_map, option_map, option_and_then, length, is_some, refl, sym, ap, subst, ◌∙◌, pos, negsuc, nat_le, ℤ, codes, unwrap_or, arith}
 use mathlib.Core.Bool.{or-true}
 use Rattle.std.proofs.lemmas.Bool.{lt-ltb}
 use Rattle.std.proofs.lemmas.Bool.Decides.{nat_tests}
 use Rattle.std.specs.List.{find, list_any, list_all}
-use Rattle.std.specs.Option.{option_or, option_map_or}
+use Rattle.std.specs.Option.{option_map_or}
 use Rattle.std.specs.Str.{bytes_eq}
 use Rattle.serde_json.specs.Data.{Data}
 use Rattle.serde_json.specs.Find.{get, as_array, as_bool, as_str}
-use Rattle.kola_values.specs.Values.{ValueTree, VInt, VBool, VStr, VObj, VSet, of_items, items}
+use Rattle.kola_values.specs.Values.{ValueTree, VInt, VBool, VStr, VObj}
 use Rattle.kola_values.specs.Types.{TypeTree, TInt, TStr, TBool, TUnit, TClass, TVar, TSet, TPair, TStruct}
 use Rattle.kola_values.specs.Order.{same}
 use Rattle.kola_values.specs.Sets.{Each, any, has, canon, set_of}
@@ -24,10 +24,9 @@ use Rattle.kola_values.proofs.Meeting.{In, from_any, value_of_object, meets_from
 use Rattle.kola_values.proofs.MeetingTypes.{other_class}
 use Rattle.kola_values.proofs.NameTests.{both_false, not_true}
 use Rattle.kola_values.proofs.SameTypes.{and_true, both_true, name_equal, name_itself}
-use Rattle.kola_load.specs.Json.{list_of, elements, integer_of, id_of, as_id, own_id, is_object}
+use Rattle.kola_load.specs.Json.{list_of, elements, integer_of, id_of, as_id, own_id}
 use Rattle.kola_load.specs.Written.{whole, value_of, references, extent_of, is_id, is_taken, is_there, id_in, attribute_in, object_in, objects_in, written}
-use Rattle.kola_load.specs.Loading.{Test, unless, first_of, first_among, members_fault, id_fault, element_fault, array_fault, extent_fault, reference_fault, value_fault, attribute_fault, object_fault, objects_fault, repeat_fault, key_fault, keys_fault, db_fault}
-use Rattle.kola_load.specs.declared.fault.DbFault.TheVariants.{NotAnArray, NotAnObject, BadId, TwiceId, MissingAttribute, WrongType, NoSuchObject, KeyRepeats}
+use Rattle.kola_load.specs.Loading.{first_of, first_among, members_fault, id_fault, element_fault, array_fault, extent_fault, value_fault, attribute_fault, object_fault, objects_fault, repeat_fault, key_fault, keys_fault, db_fault}
 use Rattle.kola_load.proofs.NoFault.{neither, holds, none_mapped, some_mapped, some_then, in_map, from_map, in_flat, from_flat, all_in, not_found, none_of, none_among, none_related, two_lists, no_two_alike, no_two_map, none_by_any}
 
 -- ---- values of their types
@@ -183,10 +182,10 @@ classes_apart j r other (k ∷ T) d f =
     let p = both_true (not (is_listed k.name (class_names T))) (are_distinct (class_names T)) d in
     two_lists r (objects_in j k) (flat_map (objects_in j) T) (f k (inl refl)) (classes_apart j r other T p.1 (λ c i. f c (inr i)))
     (λ x y a b.
-      let m = from_map (object_in k) x (extent_of j k) a in
-      let t = from_flat (objects_in j) y T b in
-      let n = from_map (object_in t.0) y (extent_of j t.0) t.2 in
-      other x y ((λ i. bytes_eq (m.2 i).class (n.2 i).class) ∙ other_name k.name T (not_true _ p.0) t.0 t.1))
+    let m = from_map (object_in k) x (extent_of j k) a in
+    let t = from_flat (objects_in j) y T b in
+    let n = from_map (object_in t.0) y (extent_of j t.0) t.2 in
+    other x y ((λ i. bytes_eq (m.2 i).class (n.2 i).class) ∙ other_name k.name T (not_true _ p.0) t.0 t.1))
 
 -- ---- the objects of a value without a fault
 
@@ -294,12 +293,12 @@ module _ (S : Classes) (j : Data) (schema : is_schema S ≡ true) where
           let known = own_id_there k i e l in
           and_true _ _
           (and_true _ _
-            (and_true _ _ (ap (ltb 0) (id_of_some e known.0 known.1) ∙ lt-ltb 0 known.0 (own_id_low e known.0 known.1)) (ap are_distinct (names_kept e k.attributes) ∙ distinct_attributes k i))
-            (all_in (λ x. is_value_of (tests.is_there (written S j)) (look_up x.0 k.attributes) x.1) (map (attribute_in e) k.attributes) (λ x m.
-              let a = from_map (attribute_in e) x k.attributes m in
-              ap (λ y. is_value_of (tests.is_there (written S j)) (look_up y.0 k.attributes) y.1) a.2
-              ∙ ap (λ t. is_value_of (tests.is_there (written S j)) t (attribute_in e a.0).1) (looked_in a.0 k.attributes (distinct_attributes k i) a.1)
-              ∙ value_typed k e a.0 (none_of (attribute_fault (is_there S j) k e) k.attributes (attributes_none k i e l) a.0 a.1))))
+          (and_true _ _ (ap (ltb 0) (id_of_some e known.0 known.1) ∙ lt-ltb 0 known.0 (own_id_low e known.0 known.1)) (ap are_distinct (names_kept e k.attributes) ∙ distinct_attributes k i))
+          (all_in (λ x. is_value_of (tests.is_there (written S j)) (look_up x.0 k.attributes) x.1) (map (attribute_in e) k.attributes) (λ x m.
+          let a = from_map (attribute_in e) x k.attributes m in
+          ap (λ y. is_value_of (tests.is_there (written S j)) (look_up y.0 k.attributes) y.1) a.2
+          ∙ ap (λ t. is_value_of (tests.is_there (written S j)) t (attribute_in e a.0).1) (looked_in a.0 k.attributes (distinct_attributes k i) a.1)
+          ∙ value_typed k e a.0 (none_of (attribute_fault (is_there S j) k e) k.attributes (attributes_none k i e l) a.0 a.1))))
           (all_in (λ x. is_listed x.0 (names_of (map (attribute_in e) k.attributes))) k.attributes (λ a m. ap (is_listed a.0) (names_kept e k.attributes) ∙ in_listed a k.attributes m))
 
       all_fit_class : all_fit S (written S j) (written S j) ≡ true
@@ -317,16 +316,16 @@ module _ (S : Classes) (j : Data) (schema : is_schema S ≡ true) where
       key_apart k i key l =
           let a = none_among (key_fault (objects_in j k) k) [] k.keys (none_of (λ c. keys_fault c (objects_in j c)) S keys k i) key l in
           (none_related (λ o p. list_all (agree_at o p) key) (repeat_fault k (length a.0 + 1) key)
-            (λ before x h y m. not_found (λ (p : Object). list_all (agree_at p x) key) before (none_mapped _ _ h) y m) [] (objects_in j k) a.1).0
+          (λ before x h y m. not_found (λ (p : Object). list_all (agree_at p x) key) before (none_mapped _ _ h) y m) [] (objects_in j k) a.1).0
 
       class_apart : (k : Class) → In k S → no_two (λ (o : Object). clash (class_named S o.class) o) (objects_in j k) ≡ true
       class_apart k i =
           no_two_alike (λ (o : Object). clash (class_named S o.class) o) (λ o p. list_any (λ key. list_all (agree_at o p) key) k.keys) (objects_in j k) (λ o p a b.
-            let m = from_map (object_in k) o (extent_of j k) a in
-            let n = from_map (object_in k) p (extent_of j k) b in
-            let c = ap (λ (q : Object). q.class) m.2 in
-            ap (λ t. clash t o p) (ap (class_named S) c ∙ class_known S distinct_classes k i)
-            ∙ ap (λ t. t && list_any (λ key. list_all (agree_at o p) key) k.keys) ((λ q. bytes_eq (c q) (n.2 q).class) ∙ name_itself k.name))
+          let m = from_map (object_in k) o (extent_of j k) a in
+          let n = from_map (object_in k) p (extent_of j k) b in
+          let c = ap (λ (q : Object). q.class) m.2 in
+          ap (λ t. clash t o p) (ap (class_named S) c ∙ class_known S distinct_classes k i)
+          ∙ ap (λ t. t && list_any (λ key. list_all (agree_at o p) key) k.keys) ((λ q. bytes_eq (c q) (n.2 q).class) ∙ name_itself k.name))
           ∙ none_by_any (λ key o p. list_all (agree_at o p) key) k.keys (objects_in j k) (key_apart k i)
 
       no_clash : keys_are_met S (written S j) ≡ true

@@ -4,6 +4,9 @@ pub mod ClassPlaces
 pub mod IdTables
 pub mod SeenKeys
 pub mod ValueLoops
+pub mod KeyLists
+pub mod Phases
+pub mod FirstFault
 pub mod NoFault
 pub mod Accepted
 pub mod Walks

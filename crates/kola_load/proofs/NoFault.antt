@@ -1,5 +1,5 @@
 -- What holds where a list of tests finds no fault.
-use Rattle.std.proofs.Common.{◌≡◌, ◌⊎◌, inl, inr, Bool, true, false, not, cond, ◌&&◌, ◌||◌, List, [], ◌∷◌, ◌++◌, Option, Some, None, map, flat_map, option_map, option_and_then, refl, sym, ap, subst, ◌∙◌}
+use Rattle.std.proofs.Common.{◌≡◌, ◌⊎◌, inl, inr, Bool, true, false, not, cond, ◌&&◌, ◌||◌, List, [], ◌∷◌, ◌++◌, Option, Some, None, map, flat_map, option_map, option_and_then, refl, ap, subst, ◌∙◌}
 use Rattle.std.specs.List.{find, list_any, list_all}
 use Rattle.std.specs.Option.{option_or}
 use Rattle.kola_values.specs.MeetsTests.{no_two}
@@ -113,8 +113,7 @@ module _ {A : Type 0} (r : A → A → Bool) where
   none_related test apart before [] h = (refl, λ y i. refl)
   none_related test apart before (x ∷ xs) h =
       let n = neither (test before x) (first_among test (before ++ x ∷ []) xs) h in
-      let rest = none_related test apart (before ++ x ∷ []) xs n.1 in
-      (
+      let rest = none_related test apart (before ++ x ∷ []) xs n.1 in (
         and_true _ _ (ap not (rest.1 x (in_right x before (x ∷ []) (inl refl)))) rest.0,
         λ y i. (λ k. apart before x n.0 y i k || rest.1 y (in_left y before (x ∷ []) i) k),
       )

@@ -15,8 +15,7 @@ use Rattle.kola_values.specs.MeetsTests.{agree_at}
 use Rattle.kola_values.proofs.KeyedObjects.{cmp_keyed_total, same_keyed_flips}
 use Rattle.kola_load.proofs.NoFault.{none_mapped}
 use Rattle.kola_load.specs.KeyViews.{key_tree, key_cmp}
-use Rattle.kola_load.specs.Loading.{Test, repeat_fault}
-use Rattle.kola_load.specs.declared.fault.DbFault.{DbFault}
+use Rattle.kola_load.specs.Loading.{repeat_fault}
 use Rattle.kola_load.specs.declared.fault.DbFault.TheVariants.{KeyRepeats}
 use Rattle.kola_load.specs.declared.keys.KeyOf.{KeyOf}
 

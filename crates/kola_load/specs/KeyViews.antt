@@ -1,5 +1,6 @@
 -- The values of an object at a key, as the program keeps them, and their order.
-use Rattle.std.specs.Prelude.{List, map}
+use Rattle.std.specs.Prelude.{List, [], ◌∷◌, None, map}
+use Rattle.std.specs.Option.{option_or}
 use Rattle.std.specs.declared.cmp.Ordering.{Ordering}
 use Rattle.std.specs.Ordering.{eq_by_cmp}
 use Rattle.std.specs.Cmp.{IsTotalOrder, IsEquivalence, on_total}
@@ -8,6 +9,8 @@ use Rattle.kola_values.specs.Values.{ValueTree}
 use Rattle.kola_values.specs.KeyedObjects.{cmp_keyed}
 use Rattle.kola_values.specs.Models.Total.{cmp_total}
 use Rattle.kola_values.specs.Views.{value_at}
+use Rattle.kola_values.specs.Databases.{Classes, Objects}
+use Rattle.kola_load.specs.Loading.{Test, keys_fault}
 use Rattle.kola_load.specs.declared.keys.KeyOf.{KeyOf}
 
 abbrev pub key_tree : KeyOf → List ValueTree
@@ -22,3 +25,9 @@ key_total = on_total key_tree (lists_total cmp_total)
 
 pub key_equiv : IsEquivalence (eq_by_cmp key_cmp)
 key_equiv = eq_by_cmp_equiv key_total
+
+-- the first fault of keys, where the objects of each class stand in a list of their own
+abbrev pub lists_fault : Classes → List Objects → Test
+lists_fault [] oss = None
+lists_fault (k ∷ ks) [] = None
+lists_fault (k ∷ ks) (os ∷ oss) = option_or (keys_fault k os) (lists_fault ks oss)

@@ -1,10 +1,9 @@
 //! The keys of a database: no object agrees with an earlier one of its class on all attributes of a key.
-ghost use Rattle.std.specs.Prelude.{◌≡◌, ◌+◌, [], map, IfOk};
+ghost use Rattle.std.specs.Prelude.{◌≡◌, ◌+◌, [], length, map, IfOk};
 ghost use Rattle.std.specs.List.{find};
 ghost use Rattle.std.specs.Option.{option_map, option_copied};
 ghost use Rattle.std.specs.Str.{bytes_eq};
 ghost use Rattle.std.specs.Cmp.Lexicographic.{slice_cmp};
-ghost use Rattle.serde_json.specs.Data.{Data};
 ghost use Rattle.kola_values.specs.Values.{VUnit};
 ghost use Rattle.kola_values.specs.Order.{cmp};
 ghost use Rattle.kola_values.specs.Databases.{look_up};
@@ -13,9 +12,8 @@ ghost use Rattle.kola_values.specs.ObjectViews.{object_tree};
 ghost use Rattle.kola_values.specs.SchemaViews.{class_tree};
 ghost use Rattle.kola_values.specs.Views.{value_tree, value_at};
 ghost use Rattle.kola_load.specs.Calls.{Finds, Nothing};
-ghost use Rattle.kola_load.specs.KeyViews.{key_tree, key_cmp};
-ghost use Rattle.kola_load.specs.Loading.{first_of, first_among, repeat_fault, keys_fault};
-ghost use Rattle.kola_load.specs.Written.{objects_in};
+ghost use Rattle.kola_load.specs.KeyViews.{key_tree, key_cmp, lists_fault};
+ghost use Rattle.kola_load.specs.Loading.{first_among, repeat_fault, keys_fault};
 
 use crate::DbFault;
 use kola_core::{Memory, Name, Names};
@@ -173,9 +171,8 @@ pub(crate) fn check_keys(
     schema: &Schema,
     lists: &[Vec<ObjectDef>],
 ) -> Result<(), DbFault>
-    ghost value: { Data }
-    requires { map (λ os. map object_tree os.items) lists.now ≡ map (objects_in value) schema.now }
-    ensures { Finds (first_of (λ k. keys_fault k (objects_in value k)) schema.now) Nothing result }
+    requires { length lists.now ≡ length schema.now }
+    ensures { Finds (lists_fault schema.now (map (λ os. map object_tree os.items) lists.now)) Nothing result }
 {
     let classes = schema.classes();
     for i in 0..classes.len() {

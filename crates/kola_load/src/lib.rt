@@ -1,6 +1,7 @@
 //! Databases from their text.
 #![tactic(auto)]
 
+mod db;
 mod elements;
 mod extents;
 mod fault;
@@ -11,4 +12,5 @@ mod names;
 mod objects;
 mod values;
 
+pub use db::read_db;
 pub use fault::DbFault;

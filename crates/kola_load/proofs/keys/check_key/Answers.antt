@@ -1,4 +1,4 @@
-use Rattle.std.proofs.Common.{◌≡◌, ◌+◌, ◌++◌, ◌∷◌, [], Some, map, take, refl, subst, sym, ap, ◌∙◌}
+use Rattle.std.proofs.Common.{◌≡◌, Some, map, take, refl, subst, sym, ap, ◌∙◌}
 use Rattle.kola_core.proofs.Lists.{taken_more}
 use Rattle.kola_values.specs.KeyedObjects.{value_at_name}
 use Rattle.kola_values.specs.ObjectViews.{object_tree}
@@ -30,10 +30,9 @@ loop-object-preserved c =
     let o = object_tree c.object-item.result in
     let k = class_tree c.args.class.now in
     let key = c.args.key.now in
-    let e : key_tree c.in_ok-said.said ≡ said key o = c.in_ok-said.ensures ∙ ap (map (λ a. value_at_name o a)) c.as_slice.ensures in
-    (
+    let e : key_tree c.in_ok-said.said ≡ said key o = c.in_ok-said.ensures ∙ ap (map (λ a. value_at_name o a)) c.as_slice.ensures in (
       subst (IsSeen key c.insert.new.self) (sym (taken_more object_tree os us i c.object-item.result refl c.loop-object-test.true c.object-item.is))
-        (seen_more key c.loop-object.seen (take i us) c.loop-object.invariant.0 o c.in_ok-said.said e c.insert.new.self (sym c.in_default.ensures.value) c.in_ok-insert.ensures.updates),
+          (seen_more key c.loop-object.seen (take i us) c.loop-object.invariant.0 o c.in_ok-said.said e c.insert.new.self (sym c.in_default.ensures.value) c.in_ok-insert.ensures.updates),
       among_next object_tree os us refl i c.object-item.result c.loop-object-test.true c.object-item.is (repeat_fault k c.args.place key) _ c.loop-object.invariant.1
-        (not_repeated key c.loop-object.seen (take i us) c.loop-object.invariant.0 o c.in_ok-said.said e k c.args.place (sym c.in_default.ensures.value)),
+          (not_repeated key c.loop-object.seen (take i us) c.loop-object.invariant.0 o c.in_ok-said.said e k c.args.place (sym c.in_default.ensures.value)),
     )

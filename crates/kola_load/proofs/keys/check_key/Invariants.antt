@@ -9,4 +9,4 @@ abbrev pub invariant-loop-object : goal.invariant-loop-object
 invariant-loop-object l =
     IsSeen l.key l.seen (take l.object-index (map object_tree l.objects))
     × (first_among (repeat_fault (class_tree l.class) l.place l.key) (take l.object-index (map object_tree l.objects)) (drop l.object-index (map object_tree l.objects))
-      ≡ first_among (repeat_fault (class_tree l.class) l.place l.key) [] (map object_tree l.objects))
+    ≡ first_among (repeat_fault (class_tree l.class) l.place l.key) [] (map object_tree l.objects))

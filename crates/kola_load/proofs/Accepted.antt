@@ -27,6 +27,7 @@ use Rattle.kola_values.proofs.SameTypes.{and_true, both_true, name_equal, name_i
 use Rattle.kola_load.specs.Json.{list_of, elements, integer_of, id_of, as_id, own_id}
 use Rattle.kola_load.specs.Written.{whole, value_of, references, extent_of, is_id, is_taken, is_there, id_in, attribute_in, object_in, objects_in, written}
 use Rattle.kola_load.specs.Loading.{first_of, first_among, members_fault, id_fault, element_fault, array_fault, extent_fault, value_fault, attribute_fault, object_fault, objects_fault, repeat_fault, key_fault, keys_fault, db_fault}
+use Rattle.kola_load.proofs.KeyPlaces.{names_kept}
 use Rattle.kola_load.proofs.NoFault.{neither, holds, none_mapped, some_mapped, some_then, in_map, from_map, in_flat, from_flat, all_in, not_found, none_of, none_among, none_related, two_lists, no_two_alike, no_two_map, none_by_any}
 
 -- ---- values of their types
@@ -117,10 +118,6 @@ id_of_some : (d : Data) (i : ℕ) → own_id d ≡ Some i → id_in d ≡ i
 id_of_some d i h = ap (λ o. unwrap_or o 0) h
 
 -- ---- attributes
-
-names_kept : (d : Data) (attributes : List (List ℕ × TypeTree)) → names_of (map (attribute_in d) attributes) ≡ names_of attributes
-names_kept d [] = refl
-names_kept d (a ∷ attributes) = ap (λ l. a.0 ∷ l) (names_kept d attributes)
 
 in_listed : {A : Type 0} (a : List ℕ × A) (es : List (List ℕ × A)) → In a es → is_listed a.0 (names_of es) ≡ true
 in_listed a [] i = absurd i

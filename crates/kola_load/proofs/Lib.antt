@@ -4,6 +4,7 @@ pub mod ClassPlaces
 pub mod IdTables
 pub mod SeenKeys
 pub mod ValueLoops
+pub mod KeyPlaces
 pub mod KeyLists
 pub mod Phases
 pub mod FirstFault

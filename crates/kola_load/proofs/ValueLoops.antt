@@ -1,5 +1,5 @@
 -- Loops over the elements of an array, of which each writes a value or not, or has a reference to nothing or not.
-use Rattle.std.proofs.Common.{◌≡◌, ℕ, ◌+◌, ◌<◌, ◌≤◌, Bool, List, [], ◌∷◌, ◌++◌, Option, Some, None, length, get_or, map, flat_map, drop, option_map, sym, ap, ◌∙◌, arith, refl}
+use Rattle.std.proofs.Common.{◌≡◌, ℕ, ◌+◌, ◌<◌, ◌≤◌, Bool, List, [], ◌∷◌, ◌++◌, Option, Some, None, length, get_or, map, flat_map, drop, option_map, sym, ap, subst, ◌∙◌, arith, refl}
 use Rattle.std.specs.List.{find}
 use Rattle.std.specs.Option.{option_or}
 use Rattle.std.proofs.lemmas.List.Folds.{find-append}
@@ -10,9 +10,6 @@ use Rattle.kola_load.specs.Written.{whole}
 -- ---- values
 
 module _ {X V A : Type 0} (v : V → A) (q : X → Option A) (xs : List X) (i : ℕ) where
-  abbrev answers : List (Option A)
-  answers = map q xs
-
   -- the values so far, before those to come
   abbrev pub AreSoFar : List V → Type 0
   AreSoFar done = option_map (λ vs. map v done ++ vs) (whole (drop i (map q xs))) ≡ whole (map q xs)
@@ -36,6 +33,10 @@ module _ {X V A : Type 0} (v : V → A) (q : X → Option A) (xs : List X) (i : 
   all_written done so_far p =
       let l = length_seen q xs (map q xs) refl in
       sym so_far ∙ ap (λ l. option_map (λ vs. map v done ++ vs) (whole l)) (drop_all i (map q xs) (omega arith)) ∙ ap Some (append-nil (map v done))
+
+-- the same of an equal list
+pub written_so_far : {X V A : Type 0} (v : V → A) (q : X → Option A) (xs : List X) (i : ℕ) (done ws : List V) → ws ≡ done → AreSoFar v q xs i done → AreSoFar v q xs i ws
+written_so_far v q xs i done ws e h = subst (AreSoFar v q xs i) (sym e) h
 
 -- ---- references
 

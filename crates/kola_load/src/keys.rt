@@ -1,23 +1,20 @@
 //! The keys of a database: no object agrees with an earlier one of its class on all attributes of a key.
-ghost use Rattle.std.specs.Prelude.{◌≡◌, ◌+◌, [], length, map, IfOk};
-ghost use Rattle.std.specs.List.{find};
-ghost use Rattle.std.specs.Option.{option_map, option_copied};
+ghost use Rattle.std.specs.Prelude.{◌≡◌, ◌+◌, [], map, position, IfOk};
 ghost use Rattle.std.specs.Str.{bytes_eq};
 ghost use Rattle.std.specs.Cmp.Lexicographic.{slice_cmp};
 ghost use Rattle.kola_values.specs.Values.{VUnit};
 ghost use Rattle.kola_values.specs.Order.{cmp};
-ghost use Rattle.kola_values.specs.Databases.{look_up};
-ghost use Rattle.kola_values.specs.KeyedObjects.{value_at_name};
+ghost use Rattle.kola_values.specs.Schemas.{names_of};
 ghost use Rattle.kola_values.specs.ObjectViews.{object_tree};
 ghost use Rattle.kola_values.specs.SchemaViews.{class_tree};
 ghost use Rattle.kola_values.specs.Views.{value_tree, value_at};
 ghost use Rattle.kola_load.specs.Calls.{Finds, Nothing};
-ghost use Rattle.kola_load.specs.KeyViews.{key_tree, key_cmp, lists_fault};
+ghost use Rattle.kola_load.specs.KeyViews.{key_tree, key_cmp, value_at_place, AreOfClass, AreOfClasses, lists_fault};
 ghost use Rattle.kola_load.specs.Loading.{first_among, repeat_fault, keys_fault};
 
 use crate::DbFault;
 use kola_core::{Memory, Name, Names};
-use kola_values::{ClassDef, ObjectDef, Schema, Value, cmp_values};
+use kola_values::{ClassDef, ObjectDef, Schema, Ty, Value, cmp_values};
 use std::alloc::Global;
 use std::cmp::Ordering;
 use std::collections::BTreeMap;
@@ -95,34 +92,52 @@ impl Ord for KeyOf<'_> {
     }
 }
 
-fn entry_named<'a>(entries: &'a [(Name, Value)], a: &Name) -> Option<&'a (Name, Value)>
-    ensures { option_copied result ≡ find (λ e. bytes_eq a.now e.0) entries.now }
+fn place_of(attributes: &[(Name, Ty)], a: &Name) -> Option<usize>
+    ensures { result ≡ position (λ e. bytes_eq a.now e.0) attributes.now }
 {
-    entries.iter().find(|entry| a.is(&entry.0))
+    attributes.iter().position(|attribute| a.is(&attribute.0))
 }
 
-// The value of an attribute of an object.
-fn value_of<'a>(object: &'a ObjectDef, a: &Name) -> Option<&'a Value>
-    ensures { option_map value_at result ≡ look_up a.now object.now.values }
+// The places of the names of a key among the attributes of a class.
+fn places_of(alloc: Global, class: &ClassDef, key: &[Name]) -> Result<Vec<Option<usize>>, Memory>
+    ensures { IfOk result (λ v. v.items ≡ map (λ a. position (bytes_eq a) (names_of class.now.attributes)) key.now) }
 {
-    let entry = entry_named(object.values.as_slice(), a)?;
-    Some(&entry.1)
+    let attributes = class.attributes.as_slice();
+    let mut places = Vec::new(alloc);
+    for a in key {
+        let place = place_of(attributes, a);
+        places.push(place)?;
+    }
+    Ok(places)
 }
 
-// The values of an object at a key; the unit stands for one that is missing.
+// The value of an object at a place; the unit where there is none.
+fn value_at<'a>(unit: &'a Value, object: &'a ObjectDef, place: Option<usize>) -> &'a Value
+    requires { value_tree unit.now ≡ VUnit }
+    ensures { value_tree result.now ≡ value_at_place object.now.values place }
+{
+    let Some(place) = place else {
+        return unit;
+    };
+    match object.values.get(place) {
+        Some(entry) => &entry.1,
+        None => unit,
+    }
+}
+
+// The values of an object at the places of a key.
 fn key_of<'a>(
     alloc: Global,
     unit: &'a Value,
     object: &'a ObjectDef,
-    key: &[Name],
+    places: &[Option<usize>],
 ) -> Result<KeyOf<'a>, Memory>
     requires { value_tree unit.now ≡ VUnit }
-    ensures { IfOk result (λ k. key_tree k ≡ map (λ a. value_at_name (object_tree object.now) a) key.now) }
+    ensures { IfOk result (λ k. key_tree k ≡ map (value_at_place object.now.values) places.now) }
 {
     let mut values = Vec::new(alloc);
-    for a in key {
-        let value = value_of(object, a).unwrap_or(unit);
-        values.push(value)?;
+    for place in places {
+        values.push(value_at(unit, object, *place))?;
     }
     Ok(KeyOf { values })
 }
@@ -135,12 +150,14 @@ fn check_key(
     key: &Names,
     objects: &[ObjectDef],
 ) -> Result<(), DbFault>
+    requires { AreOfClass (class_tree class.now) (map object_tree objects.now) }
     ensures { Finds (first_among (repeat_fault (class_tree class.now) place key.now) [] (map object_tree objects.now)) Nothing result }
 {
     let unit = Value::Unit;
+    let places = places_of(alloc, class, key.as_slice())?;
     let mut seen: BTreeMap<KeyOf<'_>, u32> = BTreeMap::new(alloc);
     for object in objects {
-        let said = key_of(alloc, &unit, object, key.as_slice())?;
+        let said = key_of(alloc, &unit, object, places.as_slice())?;
         if let Some(first) = seen.get(&said) {
             return Err(DbFault::KeyRepeats {
                 class: class.name.copy()?,
@@ -156,6 +173,7 @@ fn check_key(
 
 // Whether no object of a class agrees with an earlier one on a key of the class.
 fn check_class(alloc: Global, class: &ClassDef, objects: &[ObjectDef]) -> Result<(), DbFault>
+    requires { AreOfClass (class_tree class.now) (map object_tree objects.now) }
     ensures { Finds (keys_fault (class_tree class.now) (map object_tree objects.now)) Nothing result }
 {
     let keys = class.keys.as_slice();
@@ -171,7 +189,7 @@ pub(crate) fn check_keys(
     schema: &Schema,
     lists: &[Vec<ObjectDef>],
 ) -> Result<(), DbFault>
-    requires { length lists.now ≡ length schema.now }
+    requires { AreOfClasses schema.now (map (λ os. map object_tree os.items) lists.now) }
     ensures { Finds (lists_fault schema.now (map (λ os. map object_tree os.items) lists.now)) Nothing result }
 {
     let classes = schema.classes();

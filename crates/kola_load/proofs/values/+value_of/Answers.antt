@@ -1,4 +1,4 @@
-use Rattle.std.proofs.Common.{◌≡◌, ◌+◌, IfOk, Some, map, option_map, sym, ap, subst, ◌∙◌, arith}
+use Rattle.std.proofs.Common.{◌≡◌, ◌+◌, ◌++◌, ◌∷◌, [], IfOk, Some, map, option_map, sym, ap, subst, ◌∙◌, arith}
 use Rattle.std.proofs.lemmas.List.{length-map}
 use Rattle.serde_json.specs.View.{view, items_view}
 use Rattle.serde_json.specs.Find.{as_array}
@@ -8,7 +8,7 @@ use Rattle.kola_values.specs.Values.{VSet, of_items}
 use Rattle.kola_values.specs.Views.{type_tree, value_tree}
 use Rattle.kola_load.specs.Written.{value_of}
 use Rattle.kola_load.proofs.JsonParts.{set_value}
-use Rattle.kola_load.proofs.ValueLoops.{AreSoFar, none_written, one_written, all_written}
+use Rattle.kola_load.proofs.ValueLoops.{none_written, one_written, all_written, written_so_far}
 use Rattle.kola_load.proofs.Walks.{seen_at}
 use Rattle.kola_load.proofs.values.+value_of.Goals as goal
 
@@ -23,7 +23,7 @@ set_of-loop-element-preserved t c =
     let es = c.args.elements.now in
     let p = seen_at view es c.loop-element.element-index c.element-item.result c.loop-element-test.true c.element-item.is in
     let h = one_written value_tree (value_of (type_tree c.args.t.now)) (map view es) c.loop-element.element-index (view c.element-item.result) p.0 p.1 c.loop-element.members.items c.loop-element.invariant c.in-Some.member (sym c.in_ok-member.ensures ∙ ap (option_map value_tree) c.in-Some.is) in
-    subst (λ ms. AreSoFar value_tree (value_of (type_tree c.args.t.now)) (map view es) (c.loop-element.element-index + 1) ms) (sym c.in_ok-push-in-Some.ensures.items) h
+    written_so_far value_tree (value_of (type_tree c.args.t.now)) (map view es) (c.loop-element.element-index + 1) (c.loop-element.members.items ++ c.in-Some.member ∷ []) c.push.new.self.items c.in_ok-push-in-Some.ensures.items h
 
 pub set_of-returns : goal.set_of-returns
 unfolding set_of

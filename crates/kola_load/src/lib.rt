@@ -14,3 +14,8 @@ mod values;
 
 pub use db::read_db;
 pub use fault::DbFault;
+
+#[cfg(test)]
+mod db_samples;
+#[cfg(test)]
+mod db_tests;

@@ -1,0 +1,15 @@
+pub mod MemberNames
+pub mod JsonParts
+pub mod ClassPlaces
+pub mod IdTables
+pub mod SeenKeys
+pub mod ValueLoops
+pub mod KeyPlaces
+pub mod KeyLists
+pub mod Phases
+pub mod FirstFault
+pub mod NoFault
+pub mod Accepted
+pub mod Walks
+pub mod Answering
+mod LoadingExamples

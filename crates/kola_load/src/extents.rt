@@ -1,0 +1,42 @@
+//! The members of a database: each names an extent.
+ghost use Rattle.serde_json.specs.View.{view};
+ghost use Rattle.kola_load.specs.Calls.{Finds, Nothing};
+ghost use Rattle.kola_load.specs.Loading.{members_fault};
+
+use crate::DbFault;
+use crate::names::{Knows, least_unknown};
+use kola_core::{Memory, Name};
+use kola_values::Schema;
+use serde_json::Value;
+use std::alloc::Global;
+
+// The names of the extents of a schema.
+#[derive(Drop)]
+struct Extents<'a> {
+    schema: &'a Schema,
+}
+
+impl Knows for Extents<'_> {
+    ghost use Rattle.kola_values.specs.Schemas.{extent_names};
+
+    ghost names = { λ e. extent_names e.schema.now };
+
+    fn knows(&self, alloc: Global, name: &str) -> Result<bool, Memory> {
+        let name = Name::from_text(alloc, name)?;
+        Ok(self.schema.class_of(&name).is_some())
+    }
+}
+
+// Whether the value is an object of which each member names an extent.
+pub(crate) fn check_members(alloc: Global, schema: &Schema, value: &Value) -> Result<(), DbFault>
+    ensures { Finds (members_fault schema.now (view value.now)) Nothing result }
+{
+    let Some(members) = value.as_object() else {
+        return Err(DbFault::NotObject);
+    };
+    let extents = Extents { schema };
+    match least_unknown(alloc, &extents, members)? {
+        Some(name) => Err(DbFault::UnknownExtent { name }),
+        None => Ok(()),
+    }
+}

@@ -1,0 +1,200 @@
+//! The keys of a database: no object agrees with an earlier one of its class on all attributes of a key.
+ghost use Rattle.std.specs.Prelude.{◌≡◌, ◌+◌, [], map, position, IfOk};
+ghost use Rattle.std.specs.Str.{bytes_eq};
+ghost use Rattle.std.specs.Cmp.Lexicographic.{slice_cmp};
+ghost use Rattle.kola_values.specs.Values.{VUnit};
+ghost use Rattle.kola_values.specs.Order.{cmp};
+ghost use Rattle.kola_values.specs.Schemas.{names_of};
+ghost use Rattle.kola_values.specs.ObjectViews.{object_tree};
+ghost use Rattle.kola_values.specs.SchemaViews.{class_tree};
+ghost use Rattle.kola_values.specs.Views.{value_tree, value_at};
+ghost use Rattle.kola_load.specs.Calls.{Finds, Nothing};
+ghost use Rattle.kola_load.specs.KeyViews.{key_tree, key_cmp, value_at_place, AreOfClass, AreOfClasses, lists_fault};
+ghost use Rattle.kola_load.specs.Loading.{first_among, repeat_fault, keys_fault};
+
+use crate::DbFault;
+use kola_core::{Memory, Name, Names};
+use kola_values::{ClassDef, ObjectDef, Schema, Ty, Value, cmp_values};
+use std::alloc::Global;
+use std::cmp::Ordering;
+use std::collections::BTreeMap;
+
+// The values of an object at a key.
+#[derive(Drop)]
+struct KeyOf<'a> {
+    values: Vec<&'a Value>,
+}
+
+// The order of two lists of values.
+fn cmp_all(vs: &[&Value], ws: &[&Value]) -> Ordering
+    ensures { result ≡ slice_cmp cmp (map value_at vs.now) (map value_at ws.now) }
+{
+    for i in 0..vs.len().min(ws.len()) {
+        match cmp_values(vs[i], ws[i]) {
+            Ordering::Equal => {}
+            unequal => return unequal,
+        }
+    }
+    vs.len().cmp(&ws.len())
+}
+
+impl PartialEq for KeyOf<'_> {
+    ghost use Rattle.std.specs.Ordering.{eq_by_cmp};
+    ghost use Rattle.kola_load.specs.KeyViews.{key_cmp};
+    ghost use Rattle.kola_load.specs.KeyViews.{key_equiv};
+    ghost use Rattle.std.specs.Cmp.{partial_equiv_from_equiv};
+
+    ghost eq = { eq_by_cmp key_cmp };
+
+    ghost laws = { partial_equiv_from_equiv key_equiv };
+
+    fn eq(&self, other: &Self) -> bool {
+        self.cmp(other).is_eq()
+    }
+}
+
+impl Eq for KeyOf<'_> {
+    ghost use Rattle.kola_load.specs.KeyViews.{key_equiv};
+
+    ghost laws = { key_equiv };
+}
+
+impl PartialOrd for KeyOf<'_> {
+    ghost use Rattle.std.specs.Ordering.{as_partial_cmp};
+    ghost use Rattle.std.specs.Cmp.{partial_order_from_total};
+    ghost use Rattle.kola_load.specs.KeyViews.{key_cmp};
+    ghost use Rattle.kola_load.specs.KeyViews.{key_total};
+
+    ghost partial_cmp = { as_partial_cmp key_cmp };
+
+    ghost laws = { partial_order_from_total key_total };
+
+    fn partial_cmp(&self, other: &Self) -> Option<Ordering> {
+        Some(self.cmp(other))
+    }
+}
+
+impl Ord for KeyOf<'_> {
+    ghost use Rattle.std.specs.Prelude.{refl};
+    ghost use Rattle.kola_load.specs.KeyViews.{key_cmp};
+    ghost use Rattle.kola_load.specs.KeyViews.{key_total};
+
+    ghost cmp = { key_cmp };
+
+    ghost total = { key_total };
+
+    ghost matches_partial_cmp = { λ x y. refl };
+
+    ghost matches_eq = { λ x y. refl };
+
+    fn cmp(&self, other: &Self) -> Ordering {
+        cmp_all(&self.values, &other.values)
+    }
+}
+
+fn place_of(attributes: &[(Name, Ty)], a: &Name) -> Option<usize>
+    ensures { result ≡ position (λ e. bytes_eq a.now e.0) attributes.now }
+{
+    attributes.iter().position(|attribute| a.is(&attribute.0))
+}
+
+// The places of the names of a key among the attributes of a class.
+fn places_of(alloc: Global, class: &ClassDef, key: &[Name]) -> Result<Vec<Option<usize>>, Memory>
+    ensures { IfOk result (λ v. v.items ≡ map (λ a. position (bytes_eq a) (names_of class.now.attributes)) key.now) }
+{
+    let attributes = class.attributes.as_slice();
+    let mut places = Vec::new(alloc);
+    for a in key {
+        let place = place_of(attributes, a);
+        places.push(place)?;
+    }
+    Ok(places)
+}
+
+// The value of an object at a place; the unit where there is none.
+fn value_at<'a>(unit: &'a Value, object: &'a ObjectDef, place: Option<usize>) -> &'a Value
+    requires { value_tree unit.now ≡ VUnit }
+    ensures { value_tree result.now ≡ value_at_place object.now.values place }
+{
+    let Some(place) = place else {
+        return unit;
+    };
+    match object.values.get(place) {
+        Some(entry) => &entry.1,
+        None => unit,
+    }
+}
+
+// The values of an object at the places of a key.
+fn key_of<'a>(
+    alloc: Global,
+    unit: &'a Value,
+    object: &'a ObjectDef,
+    places: &[Option<usize>],
+) -> Result<KeyOf<'a>, Memory>
+    requires { value_tree unit.now ≡ VUnit }
+    ensures { IfOk result (λ k. key_tree k ≡ map (value_at_place object.now.values) places.now) }
+{
+    let mut values = Vec::new(alloc);
+    for place in places {
+        values.push(value_at(unit, object, *place))?;
+    }
+    Ok(KeyOf { values })
+}
+
+// Whether no object agrees with an earlier one on a key, which stands at a place counted from 1.
+fn check_key(
+    alloc: Global,
+    class: &ClassDef,
+    place: usize,
+    key: &Names,
+    objects: &[ObjectDef],
+) -> Result<(), DbFault>
+    requires { AreOfClass (class_tree class.now) (map object_tree objects.now) }
+    ensures { Finds (first_among (repeat_fault (class_tree class.now) place key.now) [] (map object_tree objects.now)) Nothing result }
+{
+    let unit = Value::Unit;
+    let places = places_of(alloc, class, key.as_slice())?;
+    let mut seen: BTreeMap<KeyOf<'_>, u32> = BTreeMap::new(alloc);
+    for object in objects {
+        let said = key_of(alloc, &unit, object, places.as_slice())?;
+        if let Some(first) = seen.get(&said) {
+            return Err(DbFault::KeyRepeats {
+                class: class.name.copy()?,
+                key: place,
+                first: *first,
+                second: object.id,
+            });
+        }
+        seen.insert(said, object.id)?;
+    }
+    Ok(())
+}
+
+// Whether no object of a class agrees with an earlier one on a key of the class.
+fn check_class(alloc: Global, class: &ClassDef, objects: &[ObjectDef]) -> Result<(), DbFault>
+    requires { AreOfClass (class_tree class.now) (map object_tree objects.now) }
+    ensures { Finds (keys_fault (class_tree class.now) (map object_tree objects.now)) Nothing result }
+{
+    let keys = class.keys.as_slice();
+    for i in 0..keys.len() {
+        check_key(alloc, class, i + 1, &keys[i], objects)?;
+    }
+    Ok(())
+}
+
+// The same of the objects of each class, which the lists have in the order of the schema.
+pub(crate) fn check_keys(
+    alloc: Global,
+    schema: &Schema,
+    lists: &[Vec<ObjectDef>],
+) -> Result<(), DbFault>
+    requires { AreOfClasses schema.now (map (λ os. map object_tree os.items) lists.now) }
+    ensures { Finds (lists_fault schema.now (map (λ os. map object_tree os.items) lists.now)) Nothing result }
+{
+    let classes = schema.classes();
+    for i in 0..classes.len() {
+        check_class(alloc, classes[i].get(), &lists[i])?;
+    }
+    Ok(())
+}

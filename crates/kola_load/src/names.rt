@@ -1,0 +1,34 @@
+//! The names of members that are not known.
+ghost use Rattle.std.specs.Prelude.{◌≡◌, ℕ, List, not, filter, IfOk};
+ghost use Rattle.kola_values.specs.Schemas.{is_listed};
+ghost use Rattle.serde_json.specs.View.{members_view};
+ghost use Rattle.kola_load.specs.Json.{least, names_of_members};
+
+use kola_core::{Memory, Text};
+use serde_json::{Map, Value};
+use std::alloc::Global;
+
+/// What tells which names of members are known.
+pub(crate) trait Knows {
+    ghost names: { Self → List (List ℕ) };
+
+    fn knows(&self, alloc: Global, name: &str) -> Result<bool, Memory>
+        ensures { IfOk result (λ b. b ≡ is_listed name.now (names self.now)) };
+}
+
+// The least name of a member that is not known.
+pub(crate) fn least_unknown<K: Knows>(
+    alloc: Global,
+    known: &K,
+    members: &Map<String, Value>,
+) -> Result<Option<Text>, Memory>
+    ensures { IfOk result (λ o. o ≡ least (filter (λ n. not (is_listed n (K.names known.now))) (names_of_members (members_view members.now.entries)))) }
+{
+    for (name, _) in members {
+        if !known.knows(alloc, name.as_str())? {
+            let text = Text::from_text(alloc, name.as_str())?;
+            return Ok(Some(text));
+        }
+    }
+    Ok(None)
+}

@@ -1,0 +1,5 @@
+pub mod ListedLaws
+pub mod SchemaSymbols
+pub mod SchemaLaws
+pub mod SchemaWhole
+mod SchemaExamples

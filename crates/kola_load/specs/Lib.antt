@@ -1,0 +1,5 @@
+pub mod SchemaTree
+pub mod SchemaAlphabet
+pub mod Listed
+pub mod SchemaGrammar
+pub mod SchemaReaders

@@ -1,0 +1,4 @@
+//! Reads schemas.
+#![tactic(auto)]
+
+mod schema_alphabet;

@@ -1,7 +1,6 @@
 -- The readers of schemas read the grammar.
-use Rattle.std.proofs.Common.{◌≡◌, inl, inr, ℕ, zero, suc, List, [], ◌∷◌, ◌++◌, Option, Some, None, refl, sym, ap, subst, ◌∙◌}
+use Rattle.std.proofs.Common.{◌≡◌, inl, inr, ℕ, zero, suc, List, [], ◌∷◌, Option, Some, None, refl, sym, ap, subst, ◌∙◌}
 use Rattle.kola_base.specs.Placed.{Placed}
-use Rattle.kola_parse.specs.Reader.{Round, Again, Final}
 use Rattle.kola_parse.specs.Reading.{never, Good}
 use Rattle.kola_parse.specs.Texts.{◌·◌, ends, Nothing, Chained, Made, Paired}
 use Rattle.kola_parse.specs.Moves.{MoveGood}
@@ -14,8 +13,8 @@ use Rattle.kola_load.specs.Listed.{Listed}
 use Rattle.kola_load.specs.SchemaTree.{Named, TypeAt, AInt, AStr, ABool, ASet, AClass, AttributeAt, ClassAt}
 use Rattle.kola_load.specs.SchemaAlphabet.{Kind, KSign, KWord, KOther, kind, word_of, name_of}
 use Rattle.kola_load.specs.SchemaGrammar.{◌▸◌, IsSign, IsWord, NameText, leaf_of, TypeText, KeyText, MayComma, KeysText, AttributesText, BodyText}
-use Rattle.kola_load.specs.SchemaReaders.{Reader, name_move, name_at, leaf_move, type_move, type_step, below, type_at, names_move, names_round, names_at, key_move, key_at, keys_move, keys_round, keys_at, attribute_of, attribute_at, attributes_move, attributes_round, attributes_at, class_of, body_at}
-use Rattle.kola_load.proofs.ListedLaws.{ItemOr, Others, IsTaken, others_good, listed_good}
+use Rattle.kola_load.specs.SchemaReaders.{Reader, name_move, name_at, leaf_move, type_move, type_step, below, type_at, next_name_move, next_name, names_at, key_move, key_at, next_key_move, next_key, keys_at, attribute_of, attribute_at, next_attribute_move, next_attribute, attributes_at, class_of, body_at}
+use Rattle.kola_load.proofs.ListedLaws.{ItemOr, Others, IsTaken, IsList, others_good, listed_good}
 use Rattle.kola_load.proofs.SchemaSymbols.{by_word, by_name, sign_token, word_token, name_token, sign_is, word_is, ahead_sign, ahead_word, behind_sign}
 
 -- ---- names
@@ -155,47 +154,49 @@ type_good d = step_good (below_level d)
 
 -- ---- names up to the parenthesis
 
-abbrev pub CommaName : Lang Placed Named
+abbrev CommaName : Lang Placed Named
 CommaName n = IsSign Comma ▸ NameText n
 
-abbrev pub Closed : List Placed → Type 0
+abbrev Closed : List Placed → Type 0
 Closed = IsSign Close ▸ ends
 
 close_token : Closed (sign_token Close ∷ [])
 close_token = (sign_is Close, tt)
 
-pub names_taken : IsTaken CommaName Closed
+names_taken : IsTaken CommaName Closed
 names_taken = record { item = λ n h. h; last = λ h. h; text = sign_token Close ∷ []; is = close_token }
 
-abbrev NamesRest : List Named → Kind → Lang Placed (Round (List Named) (List Named))
-NamesRest ns (KSign Comma) = Made (λ n. Again (ns ++ n ∷ [])) NameText
-NamesRest ns (KSign Close) = Nothing (Final ns)
-NamesRest ns _ = λ x w. ⊥
+abbrev NextNameRest : Kind → Lang Placed (Option Named)
+NextNameRest (KSign Comma) = Made Some NameText
+NextNameRest (KSign Close) = Nothing None
+NextNameRest _ = λ x w. ⊥
 
-names_heads : (ns : List Named) → Heads kind (NamesRest ns) (ItemOr CommaName Closed ns)
-names_heads ns = record { to = to; from = from; empty = empty; some = record { tree = Final ns; text = sign_token Close ∷ []; spells = (refl, close_token) } }
+next_name_heads : Heads kind NextNameRest (ItemOr CommaName Closed)
+next_name_heads = record { to = to; from = from; empty = empty; some = record { tree = None; text = sign_token Close ∷ []; spells = close_token } }
   where
-    to : (k : Kind) (x : Round (List Named) (List Named)) (t : Placed) (v : List Placed) → kind t ≡ k → NamesRest ns k x v → ItemOr CommaName Closed ns x (t ∷ v)
-    to (KSign Comma) x t v e h = subst (λ y. ItemOr CommaName Closed ns y (t ∷ v)) (sym h.is) (h.part, refl, (e, h.spells))
-    to (KSign Close) x t v e h = subst (λ y. ItemOr CommaName Closed ns y (t ∷ v)) (sym h.0) (refl, (e, h.1))
+    to : (k : Kind) (x : Option Named) (t : Placed) (v : List Placed) → kind t ≡ k → NextNameRest k x v → ItemOr CommaName Closed x (t ∷ v)
+    to (KSign Comma) x t v e h = subst (λ y. ItemOr CommaName Closed y (t ∷ v)) (sym h.is) (e, h.spells)
+    to (KSign Close) x t v e h = subst (λ y. ItemOr CommaName Closed y (t ∷ v)) (sym h.0) (e, h.1)
     to _ x t v e h = absurd h
 
-    from : (x : Round (List Named) (List Named)) (t : Placed) (v : List Placed) → ItemOr CommaName Closed ns x (t ∷ v) → NamesRest ns (kind t) x v
-    from (Again us) t v h = subst (λ k. NamesRest ns k (Again us) v) (sym h.2.0) (record { part = h.0; is = ap Again h.1; spells = h.2.1 })
-    from (Final us) t v h = subst (λ k. NamesRest ns k (Final us) v) (sym h.1.0) (ap Final h.0, h.1.1)
+    from : (x : Option Named) (t : Placed) (v : List Placed) → ItemOr CommaName Closed x (t ∷ v) → NextNameRest (kind t) x v
+    from (Some n) t v h = subst (λ k. NextNameRest k (Some n) v) (sym h.0) (record { part = n; is = refl; spells = h.1 })
+    from None t v h = subst (λ k. NextNameRest k None v) (sym h.0) (refl, h.1)
 
-    empty : (x : Round (List Named) (List Named)) → ItemOr CommaName Closed ns x [] → ⊥
-    empty (Again us) h = h.2
-    empty (Final us) h = h.1
+    empty : (x : Option Named) → ItemOr CommaName Closed x [] → ⊥
+    empty (Some n) h = h
+    empty None h = h
 
-names_each : (On : Type 0) (ns : List Named) (k : Kind) → MoveGood On (names_move ns k) (names_move ns k) (NamesRest ns k) (NamesRest ns k) never
-names_each On ns (KSign Comma) = made_good (λ n. Again (ns ++ n ∷ [])) never (name_good On)
-names_each On ns (KSign Close) = done_good On (Final ns)
-names_each On ns _ = (λ x w h. h, λ x w h. h)
+next_name_each : (On : Type 0) (k : Kind) → MoveGood On (next_name_move k) (next_name_move k) (NextNameRest k) (NextNameRest k) never
+next_name_each On (KSign Comma) = made_good Some never (name_good On)
+next_name_each On (KSign Close) = done_good On None
+next_name_each On _ = (λ x w h. h, λ x w h. h)
 
-pub names_round_good : (On : Type 0) (ns : List Named) → Good On (names_round ns) (names_round ns) (ItemOr CommaName Closed ns) (ItemOr CommaName Closed ns) never
-names_round_good On ns =
-    led_good kind On (names_move ns) (names_move ns) (NamesRest ns) (NamesRest ns) (ItemOr CommaName Closed ns) (ItemOr CommaName Closed ns) (names_heads ns) (names_heads ns) (names_each On ns)
+next_name_good : (On : Type 0) → Good On next_name next_name (ItemOr CommaName Closed) (ItemOr CommaName Closed) never
+next_name_good On = led_good kind On next_name_move next_name_move NextNameRest NextNameRest (ItemOr CommaName Closed) (ItemOr CommaName Closed) next_name_heads next_name_heads (next_name_each On)
+
+pub name_list : IsList next_name
+name_list = record { item = CommaName; last = Closed; reads = (next_name_good ⊥).low; taken = names_taken }
 
 -- names behind the parenthesis that opens them
 abbrev Opened : Lang Placed (List Named)
@@ -212,7 +213,7 @@ opened_from (n ∷ ns) w h = record { mid = n; front = h.front; back = h.back; s
 names_good : (On : Type 0) → Good On names_at names_at Opened Opened never
 names_good On =
     good_as opened_to opened_from opened_to opened_from
-    (next_good (name_good On) (λ n. others_good names_taken names_taken (names_round_good On) (n ∷ [])))
+    (next_good (name_good On) (λ n. others_good names_taken names_taken (next_name_good On) (n ∷ [])))
 
 -- ---- keys
 
@@ -261,58 +262,57 @@ key_each On _ = (λ x w h. h, λ x w h. h)
 pub key_good : (On : Type 0) → Good On key_at key_at KeyText KeyText never
 key_good On = led_good kind On key_move key_move KeyRest KeyRest KeyText KeyText key_heads key_heads (key_each On)
 
-abbrev pub NextKey : Lang Placed (List Named)
+abbrev NextKey : Lang Placed (List Named)
 NextKey k = MayComma (IsWord w.Key ▸ KeyText k)
 
 next_key_taken : (k : List Named) → NextKey k [] → ⊥
 next_key_taken k (inl h) = h
 next_key_taken k (inr h) = h
 
-pub keys_taken : IsTaken NextKey Closed
+keys_taken : IsTaken NextKey Closed
 keys_taken = record { item = next_key_taken; last = λ h. h; text = sign_token Close ∷ []; is = close_token }
 
-abbrev Keys : Type 0
-Keys = Round (List (List Named)) (List (List Named))
+abbrev NextKeyRest : Kind → Lang Placed (Option (List Named))
+NextKeyRest (KSign Comma) = Made Some (λ k. IsWord w.Key ▸ KeyText k)
+NextKeyRest (KWord (Some w.Key) n) = Made Some KeyText
+NextKeyRest (KSign Close) = Nothing None
+NextKeyRest _ = λ x w. ⊥
 
-abbrev KeysRest : List (List Named) → Kind → Lang Placed Keys
-KeysRest ks (KSign Comma) = Made (λ k. Again (ks ++ k ∷ [])) (λ k. IsWord w.Key ▸ KeyText k)
-KeysRest ks (KWord (Some w.Key) n) = Made (λ k. Again (ks ++ k ∷ [])) KeyText
-KeysRest ks (KSign Close) = Nothing (Final ks)
-KeysRest ks _ = λ x w. ⊥
-
-keys_heads : (ks : List (List Named)) → Heads kind (KeysRest ks) (ItemOr NextKey Closed ks)
-keys_heads ks = record { to = to; from = from; empty = empty; some = record { tree = Final ks; text = sign_token Close ∷ []; spells = (refl, close_token) } }
+next_key_heads : Heads kind NextKeyRest (ItemOr NextKey Closed)
+next_key_heads = record { to = to; from = from; empty = empty; some = record { tree = None; text = sign_token Close ∷ []; spells = close_token } }
   where
-    to : (k : Kind) (x : Keys) (t : Placed) (v : List Placed) → kind t ≡ k → KeysRest ks k x v → ItemOr NextKey Closed ks x (t ∷ v)
-    to (KSign Comma) x t v e h = subst (λ y. ItemOr NextKey Closed ks y (t ∷ v)) (sym h.is) (h.part, refl, inl (e, h.spells))
-    to (KWord (Some w.Key) n) x t v e h = subst (λ y. ItemOr NextKey Closed ks y (t ∷ v)) (sym h.is) (h.part, refl, inr (ap word_of e, h.spells))
-    to (KSign Close) x t v e h = subst (λ y. ItemOr NextKey Closed ks y (t ∷ v)) (sym h.0) (refl, (e, h.1))
+    to : (k : Kind) (x : Option (List Named)) (t : Placed) (v : List Placed) → kind t ≡ k → NextKeyRest k x v → ItemOr NextKey Closed x (t ∷ v)
+    to (KSign Comma) x t v e h = subst (λ y. ItemOr NextKey Closed y (t ∷ v)) (sym h.is) (inl (e, h.spells))
+    to (KWord (Some w.Key) n) x t v e h = subst (λ y. ItemOr NextKey Closed y (t ∷ v)) (sym h.is) (inr (ap word_of e, h.spells))
+    to (KSign Close) x t v e h = subst (λ y. ItemOr NextKey Closed y (t ∷ v)) (sym h.0) (e, h.1)
     to _ x t v e h = absurd h
 
-    again : (k : List Named) (us : List (List Named)) (t : Placed) (v : List Placed) → us ≡ ks ++ k ∷ [] → NextKey k (t ∷ v) → KeysRest ks (kind t) (Again us) v
-    again k us t v i (inl h) = subst (λ j. KeysRest ks j (Again us) v) (sym h.0) (record { part = k; is = ap Again i; spells = h.1 })
-    again k us t v i (inr h) = by_word (λ j. KeysRest ks j (Again us) v) w.Key (kind t) h.0 (λ n. record { part = k; is = ap Again i; spells = h.1 })
+    one : (k : List Named) (t : Placed) (v : List Placed) → NextKey k (t ∷ v) → NextKeyRest (kind t) (Some k) v
+    one k t v (inl h) = subst (λ j. NextKeyRest j (Some k) v) (sym h.0) (record { part = k; is = refl; spells = h.1 })
+    one k t v (inr h) = by_word (λ j. NextKeyRest j (Some k) v) w.Key (kind t) h.0 (λ n. record { part = k; is = refl; spells = h.1 })
 
-    from : (x : Keys) (t : Placed) (v : List Placed) → ItemOr NextKey Closed ks x (t ∷ v) → KeysRest ks (kind t) x v
-    from (Again us) t v h = again h.0 us t v h.1 h.2
-    from (Final us) t v h = subst (λ k. KeysRest ks k (Final us) v) (sym h.1.0) (ap Final h.0, h.1.1)
+    from : (x : Option (List Named)) (t : Placed) (v : List Placed) → ItemOr NextKey Closed x (t ∷ v) → NextKeyRest (kind t) x v
+    from (Some k) t v h = one k t v h
+    from None t v h = subst (λ k. NextKeyRest k None v) (sym h.0) (refl, h.1)
 
-    empty : (x : Keys) → ItemOr NextKey Closed ks x [] → ⊥
-    empty (Again us) h = next_key_taken h.0 h.2
-    empty (Final us) h = h.1
+    empty : (x : Option (List Named)) → ItemOr NextKey Closed x [] → ⊥
+    empty (Some k) h = next_key_taken k h
+    empty None h = h
 
-keys_each : (On : Type 0) (ks : List (List Named)) (k : Kind) → MoveGood On (keys_move ks k) (keys_move ks k) (KeysRest ks k) (KeysRest ks k) never
-keys_each On ks (KSign Comma) = made_good (λ k. Again (ks ++ k ∷ [])) never (ahead_word w.Key (key_good On))
-keys_each On ks (KWord (Some w.Key) n) = made_good (λ k. Again (ks ++ k ∷ [])) never (key_good On)
-keys_each On ks (KSign Close) = done_good On (Final ks)
-keys_each On ks _ = (λ x w h. h, λ x w h. h)
+next_key_each : (On : Type 0) (k : Kind) → MoveGood On (next_key_move k) (next_key_move k) (NextKeyRest k) (NextKeyRest k) never
+next_key_each On (KSign Comma) = made_good Some never (ahead_word w.Key (key_good On))
+next_key_each On (KWord (Some w.Key) n) = made_good Some never (key_good On)
+next_key_each On (KSign Close) = done_good On None
+next_key_each On _ = (λ x w h. h, λ x w h. h)
 
-pub keys_round_good : (On : Type 0) (ks : List (List Named)) → Good On (keys_round ks) (keys_round ks) (ItemOr NextKey Closed ks) (ItemOr NextKey Closed ks) never
-keys_round_good On ks =
-    led_good kind On (keys_move ks) (keys_move ks) (KeysRest ks) (KeysRest ks) (ItemOr NextKey Closed ks) (ItemOr NextKey Closed ks) (keys_heads ks) (keys_heads ks) (keys_each On ks)
+next_key_good : (On : Type 0) → Good On next_key next_key (ItemOr NextKey Closed) (ItemOr NextKey Closed) never
+next_key_good On = led_good kind On next_key_move next_key_move NextKeyRest NextKeyRest (ItemOr NextKey Closed) (ItemOr NextKey Closed) next_key_heads next_key_heads (next_key_each On)
+
+pub key_list : IsList next_key
+key_list = record { item = NextKey; last = Closed; reads = (next_key_good ⊥).low; taken = keys_taken }
 
 keys_good : (On : Type 0) → Good On keys_at keys_at KeysText KeysText never
-keys_good On = listed_good keys_taken keys_taken (keys_round_good On)
+keys_good On = listed_good keys_taken keys_taken (next_key_good On)
 
 -- ---- attributes
 
@@ -332,53 +332,53 @@ attribute_good : {On : Type 0} {i j : Reader TypeAt} {d e : ℕ} → Level On i 
 attribute_good {On} {i} {j} {d} {e} l =
     good_as (attribute_to d) (attribute_from d) (attribute_to e) (attribute_from e) (made_good attribute_of never (pair_good never l (λ x. behind_sign Semicolon (name_good On))))
 
-abbrev pub NextAttribute : ℕ → Lang Placed AttributeAt
+abbrev NextAttribute : ℕ → Lang Placed AttributeAt
 NextAttribute d a = IsWord w.Attribute ▸ AttributeText d a
 
-abbrev pub Braced : List Placed → Type 0
+abbrev Braced : List Placed → Type 0
 Braced = IsSign RightBrace ▸ ends
 
 brace_token : Braced (sign_token RightBrace ∷ [])
 brace_token = (sign_is RightBrace, tt)
 
-pub attributes_taken : (d : ℕ) → IsTaken (NextAttribute d) Braced
+attributes_taken : (d : ℕ) → IsTaken (NextAttribute d) Braced
 attributes_taken d = record { item = λ a h. h; last = λ h. h; text = sign_token RightBrace ∷ []; is = brace_token }
 
-abbrev Attributes : Type 0
-Attributes = Round (List AttributeAt) (List AttributeAt)
+abbrev NextAttributeRest : ℕ → Kind → Lang Placed (Option AttributeAt)
+NextAttributeRest d (KWord (Some w.Attribute) n) = Made Some (AttributeText d)
+NextAttributeRest d (KSign RightBrace) = Nothing None
+NextAttributeRest d _ = λ x w. ⊥
 
-abbrev AttributesRest : ℕ → List AttributeAt → Kind → Lang Placed Attributes
-AttributesRest d bs (KWord (Some w.Attribute) n) = Made (λ a. Again (bs ++ a ∷ [])) (AttributeText d)
-AttributesRest d bs (KSign RightBrace) = Nothing (Final bs)
-AttributesRest d bs _ = λ x w. ⊥
-
-attributes_heads : (d : ℕ) (bs : List AttributeAt) → Heads kind (AttributesRest d bs) (ItemOr (NextAttribute d) Braced bs)
-attributes_heads d bs = record { to = to; from = from; empty = empty; some = record { tree = Final bs; text = sign_token RightBrace ∷ []; spells = (refl, brace_token) } }
+next_attribute_heads : (d : ℕ) → Heads kind (NextAttributeRest d) (ItemOr (NextAttribute d) Braced)
+next_attribute_heads d = record { to = to; from = from; empty = empty; some = record { tree = None; text = sign_token RightBrace ∷ []; spells = brace_token } }
   where
-    to : (k : Kind) (x : Attributes) (t : Placed) (v : List Placed) → kind t ≡ k → AttributesRest d bs k x v → ItemOr (NextAttribute d) Braced bs x (t ∷ v)
-    to (KWord (Some w.Attribute) n) x t v e h = subst (λ y. ItemOr (NextAttribute d) Braced bs y (t ∷ v)) (sym h.is) (h.part, refl, (ap word_of e, h.spells))
-    to (KSign RightBrace) x t v e h = subst (λ y. ItemOr (NextAttribute d) Braced bs y (t ∷ v)) (sym h.0) (refl, (e, h.1))
+    to : (k : Kind) (x : Option AttributeAt) (t : Placed) (v : List Placed) → kind t ≡ k → NextAttributeRest d k x v → ItemOr (NextAttribute d) Braced x (t ∷ v)
+    to (KWord (Some w.Attribute) n) x t v e h = subst (λ y. ItemOr (NextAttribute d) Braced y (t ∷ v)) (sym h.is) (ap word_of e, h.spells)
+    to (KSign RightBrace) x t v e h = subst (λ y. ItemOr (NextAttribute d) Braced y (t ∷ v)) (sym h.0) (e, h.1)
     to _ x t v e h = absurd h
 
-    from : (x : Attributes) (t : Placed) (v : List Placed) → ItemOr (NextAttribute d) Braced bs x (t ∷ v) → AttributesRest d bs (kind t) x v
-    from (Again us) t v h = by_word (λ k. AttributesRest d bs k (Again us) v) w.Attribute (kind t) h.2.0 (λ n. record { part = h.0; is = ap Again h.1; spells = h.2.1 })
-    from (Final us) t v h = subst (λ k. AttributesRest d bs k (Final us) v) (sym h.1.0) (ap Final h.0, h.1.1)
+    from : (x : Option AttributeAt) (t : Placed) (v : List Placed) → ItemOr (NextAttribute d) Braced x (t ∷ v) → NextAttributeRest d (kind t) x v
+    from (Some a) t v h = by_word (λ k. NextAttributeRest d k (Some a) v) w.Attribute (kind t) h.0 (λ n. record { part = a; is = refl; spells = h.1 })
+    from None t v h = subst (λ k. NextAttributeRest d k None v) (sym h.0) (refl, h.1)
 
-    empty : (x : Attributes) → ItemOr (NextAttribute d) Braced bs x [] → ⊥
-    empty (Again us) h = h.2
-    empty (Final us) h = h.1
+    empty : (x : Option AttributeAt) → ItemOr (NextAttribute d) Braced x [] → ⊥
+    empty (Some a) h = h
+    empty None h = h
 
-attributes_each : {On : Type 0} {i j : Reader TypeAt} {d e : ℕ} → Level On i j d e → (bs : List AttributeAt) (k : Kind) → MoveGood On (attributes_move i bs k) (attributes_move j bs k) (AttributesRest d bs k) (AttributesRest e bs k) never
-attributes_each {On} l bs (KWord (Some w.Attribute) n) = made_good (λ a. Again (bs ++ a ∷ [])) never (attribute_good l)
-attributes_each {On} l bs (KSign RightBrace) = done_good On (Final bs)
-attributes_each {On} l bs _ = (λ x w h. h, λ x w h. h)
+next_attribute_each : {On : Type 0} {i j : Reader TypeAt} {d e : ℕ} → Level On i j d e → (k : Kind) → MoveGood On (next_attribute_move i k) (next_attribute_move j k) (NextAttributeRest d k) (NextAttributeRest e k) never
+next_attribute_each {On} l (KWord (Some w.Attribute) n) = made_good Some never (attribute_good l)
+next_attribute_each {On} l (KSign RightBrace) = done_good On None
+next_attribute_each {On} l _ = (λ x w h. h, λ x w h. h)
 
-pub attributes_round_good : {On : Type 0} {i j : Reader TypeAt} {d e : ℕ} → Level On i j d e → (bs : List AttributeAt) → Good On (attributes_round i bs) (attributes_round j bs) (ItemOr (NextAttribute d) Braced bs) (ItemOr (NextAttribute e) Braced bs) never
-attributes_round_good {On} {i} {j} {d} {e} l bs =
-    led_good kind On (attributes_move i bs) (attributes_move j bs) (AttributesRest d bs) (AttributesRest e bs) (ItemOr (NextAttribute d) Braced bs) (ItemOr (NextAttribute e) Braced bs) (attributes_heads d bs) (attributes_heads e bs) (attributes_each l bs)
+next_attribute_good : {On : Type 0} {i j : Reader TypeAt} {d e : ℕ} → Level On i j d e → Good On (next_attribute i) (next_attribute j) (ItemOr (NextAttribute d) Braced) (ItemOr (NextAttribute e) Braced) never
+next_attribute_good {On} {i} {j} {d} {e} l =
+    led_good kind On (next_attribute_move i) (next_attribute_move j) (NextAttributeRest d) (NextAttributeRest e) (ItemOr (NextAttribute d) Braced) (ItemOr (NextAttribute e) Braced) (next_attribute_heads d) (next_attribute_heads e) (next_attribute_each l)
+
+pub attribute_list : (d : ℕ) → IsList (next_attribute (type_at d))
+attribute_list d = record { item = NextAttribute d; last = Braced; reads = (next_attribute_good (type_good d)).low; taken = attributes_taken d }
 
 attributes_good : {On : Type 0} {i j : Reader TypeAt} {d e : ℕ} → Level On i j d e → Good On (attributes_at i) (attributes_at j) (AttributesText d) (AttributesText e) never
-attributes_good {On} {i} {j} {d} {e} l = listed_good (attributes_taken d) (attributes_taken e) (attributes_round_good l)
+attributes_good {On} {i} {j} {d} {e} l = listed_good (attributes_taken d) (attributes_taken e) (next_attribute_good l)
 
 -- ---- the body of a class
 

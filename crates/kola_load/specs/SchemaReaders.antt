@@ -2,8 +2,9 @@
 use Rattle.std.specs.Prelude.{ℕ, zero, suc, Bool, false, List, [], ◌∷◌, ◌++◌, Option, Some, None}
 use Rattle.std.specs.Str.{bytes_eq}
 use Rattle.kola_base.specs.Placed.{Placed}
-use Rattle.kola_parse.specs.Reader.{Answer, then, Move, Stray, Goes, eat, may, stop, done, pair, made, many, Round, Again, Final, rounds}
+use Rattle.kola_parse.specs.Reader.{Answer, then, Move, Stray, Goes, eat, may, stop, done, pair, made, many}
 use Rattle.kola_parse.specs.Kinds.{ahead, behind, deeper}
+use Rattle.kola_load.specs.Listed.{listed}
 use Rattle.kola_load.specs.SchemaTree.{Named, TypeAt, ASet, AttributeAt, ClassAt}
 use Rattle.kola_load.specs.SchemaAlphabet.{sign_spelling, word_spelling, Kind, KSign, KWord, kind}
 use Rattle.kola_load.specs.SchemaGrammar.{leaf_of}
@@ -63,16 +64,16 @@ type_at d = type_step (below d)
 -- ---- keys
 
 -- behind names: one more, or the parenthesis
-abbrev pub names_move : List Named → Kind → Move Placed (Round (List Named) (List Named))
-names_move ns (KSign Comma) = Goes (made (λ n. Again (ns ++ n ∷ [])) name_at)
-names_move ns (KSign Close) = Goes (done (Final ns))
-names_move ns _ = Stray
+abbrev pub next_name_move : Kind → Move Placed (Option Named)
+next_name_move (KSign Comma) = Goes (made Some name_at)
+next_name_move (KSign Close) = Goes (done None)
+next_name_move _ = Stray
 
-abbrev pub names_round : List Named → Reader (Round (List Named) (List Named))
-names_round ns = eat (λ t. names_move ns (kind t))
+abbrev pub next_name : Reader (Option Named)
+next_name = eat (λ t. next_name_move (kind t))
 
 abbrev pub names_at : Reader (List Named)
-names_at = then name_at (λ n. rounds names_round (n ∷ []))
+names_at = then name_at (λ n. listed next_name (n ∷ []))
 
 abbrev pub key_move : Kind → Move Placed (List Named)
 key_move (KSign Open) = Goes names_at
@@ -83,17 +84,17 @@ abbrev pub key_at : Reader (List Named)
 key_at = eat (λ t. key_move (kind t))
 
 -- behind keys: one more, or the parenthesis
-abbrev pub keys_move : List (List Named) → Kind → Move Placed (Round (List (List Named)) (List (List Named)))
-keys_move ks (KSign Comma) = Goes (made (λ k. Again (ks ++ k ∷ [])) (ahead (word w.Key) key_at))
-keys_move ks (KWord (Some w.Key) n) = Goes (made (λ k. Again (ks ++ k ∷ [])) key_at)
-keys_move ks (KSign Close) = Goes (done (Final ks))
-keys_move ks _ = Stray
+abbrev pub next_key_move : Kind → Move Placed (Option (List Named))
+next_key_move (KSign Comma) = Goes (made Some (ahead (word w.Key) key_at))
+next_key_move (KWord (Some w.Key) n) = Goes (made Some key_at)
+next_key_move (KSign Close) = Goes (done None)
+next_key_move _ = Stray
 
-abbrev pub keys_round : List (List Named) → Reader (Round (List (List Named)) (List (List Named)))
-keys_round ks = eat (λ t. keys_move ks (kind t))
+abbrev pub next_key : Reader (Option (List Named))
+next_key = eat (λ t. next_key_move (kind t))
 
 abbrev pub keys_at : Reader (List (List Named))
-keys_at = rounds keys_round []
+keys_at = listed next_key []
 
 -- ---- classes; type reads a type
 
@@ -104,16 +105,16 @@ abbrev pub attribute_at : Reader TypeAt → Reader AttributeAt
 attribute_at type = made attribute_of (pair type (λ _. behind name_at (sign Semicolon)))
 
 -- behind attributes: one more, or the brace
-abbrev pub attributes_move : Reader TypeAt → List AttributeAt → Kind → Move Placed (Round (List AttributeAt) (List AttributeAt))
-attributes_move type bs (KWord (Some w.Attribute) n) = Goes (made (λ a. Again (bs ++ a ∷ [])) (attribute_at type))
-attributes_move type bs (KSign RightBrace) = Goes (done (Final bs))
-attributes_move type bs _ = Stray
+abbrev pub next_attribute_move : Reader TypeAt → Kind → Move Placed (Option AttributeAt)
+next_attribute_move type (KWord (Some w.Attribute) n) = Goes (made Some (attribute_at type))
+next_attribute_move type (KSign RightBrace) = Goes (done None)
+next_attribute_move type _ = Stray
 
-abbrev pub attributes_round : Reader TypeAt → List AttributeAt → Reader (Round (List AttributeAt) (List AttributeAt))
-attributes_round type bs = eat (λ t. attributes_move type bs (kind t))
+abbrev pub next_attribute : Reader TypeAt → Reader (Option AttributeAt)
+next_attribute type = eat (λ t. next_attribute_move type (kind t))
 
 abbrev pub attributes_at : Reader TypeAt → Reader (List AttributeAt)
-attributes_at type = rounds (attributes_round type) []
+attributes_at type = listed (next_attribute type) []
 
 abbrev pub class_of : Named × (Named × (List (List Named) × List AttributeAt)) → ClassAt
 class_of x = record { name = x.0; extent = x.1.0; keys = x.1.1.0; attributes = x.1.1.1 }

@@ -3,3 +3,4 @@ pub mod SchemaAlphabet
 pub mod Listed
 pub mod SchemaGrammar
 pub mod SchemaReaders
+pub mod SchemaViews

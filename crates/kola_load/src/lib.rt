@@ -2,3 +2,4 @@
 #![tactic(auto)]
 
 mod schema_alphabet;
+mod schema_tree;

@@ -3,3 +3,4 @@ pub mod SchemaSymbols
 pub mod SchemaLaws
 pub mod SchemaWhole
 mod SchemaExamples
+pub mod SchemaLoops

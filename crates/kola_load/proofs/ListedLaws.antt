@@ -1,6 +1,6 @@
 -- A list of items is read by what reads one item or the last text.
-use Rattle.std.proofs.Common.{◌≡◌, ℕ, zero, suc, List, [], ◌∷◌, ◌++◌, Option, Some, None, Ok, Err, refl, sym, ap, subst, ◌∙◌, append_assoc}
-use Rattle.std.proofs.lemmas.List.{append-nil}
+use Rattle.std.proofs.Common.{length, ◌<◌, map, arith, ◌≡◌, ℕ, zero, suc, List, [], ◌∷◌, ◌++◌, Option, Some, None, Ok, Err, refl, sym, ap, subst, ◌∙◌, append_assoc}
+use Rattle.std.proofs.lemmas.List.{append-nil, map-append, length-append}
 use Rattle.kola_parse.specs.declared.stop.Stop.{Stop}
 use Rattle.kola_parse.specs.declared.stop.Stop.TheVariants.{Memory, Before}
 use Rattle.kola_parse.specs.Given.{Fails}
@@ -137,3 +137,14 @@ module _ {T A : Type 0} {p : List T → Answer T (Option A)} (h : IsList p) wher
   pub listed_fails : (vs : List A) (e : Stop (List T)) (ts : List T) → Fails e (p ts) → Fails e (listed p vs ts)
   listed_fails vs Memory ts i = tt
   listed_fails vs (Before y r) ts i = rounds_fails one (One h.item h.last) one_reads (taken_full h.item h.last h.taken) (taken_some h.item h.last h.taken) vs (fault y r) ts (made_is vs ts (Err (fault y r)) i)
+
+  -- the items as they are seen
+  pub listed_more : {X : Type 0} (view : X → A) (xs ys : List X) (x : X) (ts r : List T) → ys ≡ xs ++ x ∷ [] → p ts ≡ Ok (Some (view x), r) → listed p (map view ys) r ≡ listed p (map view xs) ts
+  listed_more {X} view xs ys x ts r i e = sym (listed_goes (map view xs) (view x) ts r e ∙ ap (λ (z : List A). listed p z r) (sym (ap (map view) i ∙ map-append view xs (x ∷ []))))
+
+  pub item_shorter : (o : Option A) (ts r : List T) → p ts ≡ Ok (o, r) → length r < length ts
+  item_shorter o ts r e = let one = h.reads.sound ts o r e in shorter one.text one.split one.spells
+    where
+      shorter : (text : List T) → ts ≡ text ++ r → ItemOr h.item h.last o text → length r < length ts
+      shorter [] i k = absurd (none_empty h.item h.last h.taken o k)
+      shorter (t ∷ text) i k = let n = ap length i in omega (arith, n, length-append text r)

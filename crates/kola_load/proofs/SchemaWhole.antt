@@ -42,7 +42,7 @@ end_good : (On : Type 0) (c : ClassAt) → Good On (end_at c) (end_at c) (Ended 
 end_good On c = may_good c (λ t. end_move c (kind t)) (λ t. end_move c (kind t)) (λ t. EndRest c (kind t)) (λ t. EndRest c (kind t)) on_class (λ t. end_each On c (kind t))
 
 -- the text of a class behind its word
-abbrev Rest : ℕ → Lang Placed ClassAt
+abbrev pub Rest : ℕ → Lang Placed ClassAt
 Rest d c = BodyText d c · EndText
 
 ended_to : (c x : ClassAt) (t : Placed) (k : Kind) (v : List Placed) → kind t ≡ k → EndRest c k x v → (x ≡ c) × EndText (t ∷ v)
@@ -67,7 +67,7 @@ ended_from x (t ∷ v) (inr h) = absurd h
 rest_from : (d : ℕ) (x : ClassAt) (v : List Placed) → Rest d x v → Chained (BodyText d) Ended x v
 rest_from d x v h = record { mid = x; front = h.front; back = h.back; split = h.split; first = h.first; second = ended_from x h.back h.second }
 
-rest_good : {On : Type 0} {i j : Reader TypeAt} {d e : ℕ} → Level On i j d e → Good On (then (body_at i) end_at) (then (body_at j) end_at) (Rest d) (Rest e) on_class
+pub rest_good : {On : Type 0} {i j : Reader TypeAt} {d e : ℕ} → Level On i j d e → Good On (then (body_at i) end_at) (then (body_at j) end_at) (Rest d) (Rest e) on_class
 rest_good {On} {i} {j} {d} {e} l = good_as (rest_to d) (rest_from d) (rest_to e) (rest_from e) (next_good (body_good l) (λ c. end_good On c))
 
 -- ---- the classes

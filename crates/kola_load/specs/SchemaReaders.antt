@@ -135,6 +135,14 @@ abbrev pub class_move : Reader TypeAt → Kind → Move Placed ClassAt
 class_move type (KWord (Some w.Class) n) = Goes (then (body_at type) end_at)
 class_move type _ = Stray
 
+-- one more class, or none, which takes nothing
+abbrev pub next_class_move : Reader TypeAt → Kind → Move Placed (Option ClassAt)
+next_class_move type (KWord (Some w.Class) n) = Goes (made Some (then (body_at type) end_at))
+next_class_move type _ = Stray
+
+abbrev pub next_class : Reader TypeAt → Reader (Option ClassAt)
+next_class type = may None (λ t. next_class_move type (kind t))
+
 abbrev pub grow : List ClassAt → ClassAt → List ClassAt
 grow cs c = cs ++ c ∷ []
 

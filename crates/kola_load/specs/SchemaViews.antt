@@ -1,5 +1,6 @@
 -- What the program's kinds and trees of schemas are.
-use Rattle.std.specs.Prelude.{List, map}
+use Rattle.std.specs.Prelude.{List, map, Vec}
+use Rattle.std.specs.declared.alloc.Global.{Global}
 use Rattle.kola_load.specs.declared.schema_alphabet.Kind as kind
 use Rattle.kola_load.specs.declared.schema_alphabet.Kind.TheVariants as kinds
 use Rattle.kola_load.specs.declared.schema_tree.Named as named
@@ -30,3 +31,9 @@ names_view ns = map named_view ns
 
 abbrev pub attribute_view : attribute.AttributeAt → AttributeAt
 attribute_view a = record { type = type_view a.ty; name = named_view a.name }
+
+abbrev pub key_view : Vec named.Named Global → List Named
+key_view k = map named_view k.items
+
+abbrev pub class_view : class.ClassAt → ClassAt
+class_view c = record { name = named_view c.name; extent = named_view c.extent; keys = map key_view c.keys.items; attributes = map attribute_view c.attributes.items }

@@ -2,4 +2,5 @@
 #![tactic(auto)]
 
 mod schema_alphabet;
+mod schema_syntax;
 mod schema_tree;

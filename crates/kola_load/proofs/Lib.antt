@@ -4,3 +4,4 @@ pub mod SchemaLaws
 pub mod SchemaWhole
 mod SchemaExamples
 pub mod SchemaLoops
+pub mod FirstMarkLaws

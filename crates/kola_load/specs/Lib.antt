@@ -4,3 +4,6 @@ pub mod Listed
 pub mod SchemaGrammar
 pub mod SchemaReaders
 pub mod SchemaViews
+pub mod Names
+pub mod SchemaFaults
+pub mod FirstMarks

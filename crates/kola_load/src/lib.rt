@@ -2,5 +2,6 @@
 #![tactic(auto)]
 
 mod schema_alphabet;
+mod schema_fault;
 mod schema_syntax;
 mod schema_tree;

@@ -6,8 +6,9 @@ use Rattle.kola_values.specs.Schemas.{is_listed}
 use Rattle.kola_values.proofs.SameTypes.{name_equal}
 use Rattle.kola_load.specs.Names.{is_extent_name}
 use Rattle.kola_load.specs.SchemaTree.{Named, TypeAt, AInt, AStr, ABool, ASet, AClass, AttributeAt, ClassAt}
-use Rattle.kola_load.specs.SchemaFaults.{Mark, mark, Among, starts_with_capital, names, class_names, extents, attributes, Unless, IsNotAllowed, IsTwice, IsUnknown, IsUnknownKey, StandsInClass, Stands, rank, Before, IsFirst}
+use Rattle.kola_load.specs.SchemaFaults.{mark, Among, starts_with_capital, names, class_names, extents, attributes, Unless, IsNotAllowed, IsTwice, IsUnknown, IsUnknownKey, StandsInClass, Stands, rank, Before, IsFirst}
 use Rattle.kola_load.specs.FirstMarks.{goes_before, earlier, unless, first_of, not_allowed, with_name, twice_from, twice, unknown_class, unknown_key, unknown_keys, unknown_types, first_in_class, first_mark}
+use Rattle.kola_load.specs.declared.schema_fault.Mark.{Mark}
 use Rattle.kola_load.specs.declared.schema_fault.NameWhy.{NameWhy}
 use Rattle.kola_load.specs.declared.schema_fault.NameWhy.TheVariants.{NotAllowed, TwiceDefined, UnknownClass, UnknownKeyAttribute}
 
@@ -154,7 +155,7 @@ listed_again m n s h = by (is_listed m s) (bytes_eq m n) refl refl
     by false true i j = absurd (let same = name_equal m n j in let k : is_listed m s ≡ true = ap (λ z. is_listed z s) same ∙ h in cc)
     by false false i j = refl
 
-added : (b : Bool) (n : List ℕ) (s t : List (List ℕ)) → Agree s t → is_listed n s ≡ b → Agree (cond b s (s ++ n ∷ [])) (t ++ n ∷ [])
+pub added : (b : Bool) (n : List ℕ) (s t : List (List ℕ)) → Agree s t → is_listed n s ≡ b → Agree (cond b s (s ++ n ∷ [])) (t ++ n ∷ [])
 added true n s t h e m = listed_again m n s e ∙ ap (λ (b : Bool). b || bytes_eq m n) (h m) ∙ sym (listed_end m n t)
 added false n s t h e m = listed_end m n s ∙ ap (λ (b : Bool). b || bytes_eq m n) (h m) ∙ sym (listed_end m n t)
 

@@ -5,3 +5,4 @@ pub mod SchemaWhole
 mod SchemaExamples
 pub mod SchemaLoops
 pub mod FirstMarkLaws
+pub mod MarkLoops

@@ -3,7 +3,8 @@ use Rattle.std.specs.Prelude.{ℕ, nat_lt, nat_le, nat_eq, ◌&&◌, ◌||◌, n
 use Rattle.kola_values.specs.Schemas.{is_listed}
 use Rattle.kola_load.specs.Names.{is_extent_name}
 use Rattle.kola_load.specs.SchemaTree.{Named, TypeAt, ASet, AClass, AttributeAt, ClassAt}
-use Rattle.kola_load.specs.SchemaFaults.{Mark, mark, starts_with_capital, names, class_names, extents, attributes, rank}
+use Rattle.kola_load.specs.SchemaFaults.{mark, starts_with_capital, names, class_names, extents, attributes, rank}
+use Rattle.kola_load.specs.declared.schema_fault.Mark.{Mark}
 use Rattle.kola_load.specs.declared.schema_fault.NameWhy.{NameWhy}
 use Rattle.kola_load.specs.declared.schema_fault.NameWhy.TheVariants.{NotAllowed, TwiceDefined, UnknownClass, UnknownKeyAttribute}
 
@@ -28,6 +29,10 @@ not_allowed c = earlier (unless (starts_with_capital c.name.name) NotAllowed c.n
 -- the names that are seen, each once
 abbrev pub with_name : List (List ℕ) → List ℕ → List (List ℕ)
 with_name seen n = cond (is_listed n seen) seen (seen ++ n ∷ [])
+
+abbrev pub names_from : List (List ℕ) → List Named → List (List ℕ)
+names_from seen [] = seen
+names_from seen (n ∷ ns) = names_from (with_name seen n.name) ns
 
 abbrev pub twice_from : List (List ℕ) → Option Mark → List Named → Option Mark
 twice_from seen best [] = best

@@ -3,14 +3,11 @@ use Rattle.std.specs.Prelude.{◌≡◌, ◌⊎◌, ◌<◌, ◌≤◌, ◌&&◌
 use Rattle.kola_values.specs.Schemas.{is_listed}
 use Rattle.kola_load.specs.Names.{is_extent_name}
 use Rattle.kola_load.specs.SchemaTree.{Named, TypeAt, ASet, AClass, AttributeAt, ClassAt}
+use Rattle.kola_load.specs.declared.schema_fault.Mark.{Mark}
 use Rattle.kola_load.specs.declared.schema_fault.NameWhy.{NameWhy}
 use Rattle.kola_load.specs.declared.schema_fault.NameWhy.TheVariants.{NotAllowed, TwiceDefined, UnknownClass, UnknownKeyAttribute}
 
--- a cause at a place
-pub record Mark : Type 0 where
-  pub at : ℕ
-  pub why : NameWhy
-
+-- the cause at the name's place
 abbrev pub mark : NameWhy → Named → Mark
 mark why n = record { at = n.at; why = why }
 

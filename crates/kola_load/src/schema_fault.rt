@@ -16,6 +16,13 @@ pub enum NameWhy {
     UnknownKeyAttribute,
 }
 
+/// A cause at a place.
+#[derive(Clone, Copy, Debug, PartialEq, Eq)]
+pub struct Mark {
+    pub at: usize,
+    pub why: NameWhy,
+}
+
 /// Why a text is no schema.
 #[derive(Clone, Copy, Debug, PartialEq, Eq, Error)]
 pub enum SchemaWhy {

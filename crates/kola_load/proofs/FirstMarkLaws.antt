@@ -134,7 +134,7 @@ module _ {A : Type 0} (F : A → Mark → Type 0) (f : A → Option Mark) (each 
 abbrev pub Agree : List (List ℕ) → List (List ℕ) → Type 0
 Agree s t = (m : List ℕ) → is_listed m s ≡ is_listed m t
 
-listed_end : (m n : List ℕ) (s : List (List ℕ)) → is_listed m (s ++ n ∷ []) ≡ (is_listed m s || bytes_eq m n)
+pub listed_end : (m n : List ℕ) (s : List (List ℕ)) → is_listed m (s ++ n ∷ []) ≡ (is_listed m s || bytes_eq m n)
 listed_end m n [] = or_false (bytes_eq m n)
   where
     or_false : (b : Bool) → (b || false) ≡ b

@@ -6,3 +6,4 @@ mod SchemaExamples
 pub mod SchemaLoops
 pub mod FirstMarkLaws
 pub mod MarkLoops
+pub mod PlainLaws

@@ -17,6 +17,7 @@ use Rattle.kola_load.specs.declared.schema_alphabet.Word.TheVariants as w
 use Rattle.kola_load.specs.SchemaTree.{TypeAt, ClassAt}
 use Rattle.kola_load.specs.SchemaAlphabet.{Kind, KSign, KWord, kind, word_of}
 use Rattle.kola_load.specs.SchemaGrammar.{BodyText, EndText, ClassText, SchemaText}
+use Rattle.kola_load.specs.SchemaAccepted.{Schemas}
 use Rattle.kola_load.specs.SchemaReaders.{Reader, is_sign, sign, body_at, end_move, end_at, class_move, grow, classes_at, schema_at}
 use Rattle.kola_load.proofs.SchemaSymbols.{by_word}
 use Rattle.kola_load.proofs.SchemaLaws.{Level, type_good, body_good}
@@ -182,10 +183,6 @@ classes_good {On} {i} {j} {d} {e} l =
 
 pub schema_good : (d : ℕ) → Good (Unit {0}) (schema_at d) (schema_at (suc d)) (λ cs. SchemaText cs d) (λ cs. SchemaText cs (suc d)) on_schema
 schema_good d = classes_good (type_good d)
-
--- the language of a schema within a limit
-abbrev pub Schemas : ℕ → Lang Placed (List ClassAt)
-Schemas d cs = SchemaText cs d
 
 -- ---- what is read on the whole, and where a text is refused
 

@@ -7,3 +7,5 @@ pub mod SchemaViews
 pub mod Names
 pub mod SchemaFaults
 pub mod FirstMarks
+pub mod PlainSchemas
+pub mod SchemaAccepted

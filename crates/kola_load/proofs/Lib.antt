@@ -13,3 +13,12 @@ pub mod Accepted
 pub mod Walks
 pub mod Answering
 mod LoadingExamples
+pub mod ListedLaws
+pub mod SchemaSymbols
+pub mod SchemaLaws
+pub mod SchemaWhole
+mod SchemaExamples
+pub mod SchemaLoops
+pub mod FirstMarkLaws
+pub mod MarkLoops
+pub mod PlainLaws

@@ -6,3 +6,14 @@ pub mod Calls
 pub mod Ids
 pub mod Labels
 pub mod KeyViews
+pub mod SchemaTree
+pub mod SchemaAlphabet
+pub mod Listed
+pub mod SchemaGrammar
+pub mod SchemaReaders
+pub mod SchemaViews
+pub mod Names
+pub mod SchemaFaults
+pub mod FirstMarks
+pub mod PlainSchemas
+pub mod SchemaAccepted

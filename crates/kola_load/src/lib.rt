@@ -1,4 +1,4 @@
-//! Databases from their text.
+//! Schemas and databases from their texts.
 #![tactic(auto)]
 
 mod db;
@@ -10,10 +10,20 @@ mod json;
 mod keys;
 mod names;
 mod objects;
+mod schema_alphabet;
+mod schema_fault;
+mod schema_names;
+mod schema_plain;
+mod schema_read;
+mod schema_syntax;
+mod schema_tree;
 mod values;
+mod word_table;
 
 pub use db::read_db;
 pub use fault::DbFault;
+pub use schema_fault::{SchemaFault, SchemaWhy};
+pub use schema_read::read_schema;
 
 #[cfg(test)]
 mod db_samples;

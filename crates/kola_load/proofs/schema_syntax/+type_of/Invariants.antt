@@ -1,0 +1,4 @@
+use Rattle.kola_load.proofs.schema_syntax.+type_of.Given as goal
+
+abbrev pub decreases-type_of : goal.decreases-type_of
+decreases-type_of l = l.levels

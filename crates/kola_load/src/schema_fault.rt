@@ -1,0 +1,61 @@
+//! Why a text is no schema, and where.
+
+use kola_base::LexWhy;
+use thiserror::Error;
+
+/// Why a name is at fault.
+#[derive(Clone, Copy, Debug, PartialEq, Eq)]
+pub enum NameWhy {
+    /// A class name does not start with a capital letter, or an extent is named by a word of queries, terms or rules.
+    NotAllowed,
+    /// A class, an extent or an attribute of one class is named so before.
+    TwiceDefined,
+    /// A type names no class.
+    UnknownClass,
+    /// A key names no attribute of its class.
+    UnknownKeyAttribute,
+}
+
+/// A cause at a place.
+#[derive(Clone, Copy, Debug, PartialEq, Eq)]
+pub struct Mark {
+    pub at: usize,
+    pub why: NameWhy,
+}
+
+/// Why a text is no schema.
+#[derive(Clone, Copy, Debug, PartialEq, Eq, Error)]
+pub enum SchemaWhy {
+    /// The text has no tokens.
+    #[error("{0}")]
+    Lex(LexWhy),
+    /// No schema begins with the tokens up to this one.
+    #[error("Unexpected")]
+    Unexpected,
+    /// A schema begins with the tokens up to this one, but none whose types nest at most 100 deep.
+    #[error("TooDeep")]
+    TooDeep,
+    /// A class name does not start with a capital letter, or an extent is named by a word of queries, terms or rules.
+    #[error("NameNotAllowed")]
+    NameNotAllowed,
+    /// A class, an extent or an attribute of one class is named so before; at the second one.
+    #[error("TwiceDefined")]
+    TwiceDefined,
+    /// A type names no class.
+    #[error("UnknownClass")]
+    UnknownClass,
+    /// A key names no attribute of its class.
+    #[error("UnknownKeyAttribute")]
+    UnknownKeyAttribute,
+}
+
+/// The first fault of a text that is no schema, or want of memory.
+#[derive(Clone, Copy, Debug, PartialEq, Eq, Error)]
+pub enum SchemaFault {
+    /// The place, counted in bytes from 0, and the cause.
+    #[error("{why} at {at}")]
+    At { at: usize, why: SchemaWhy },
+    /// Memory was wanted.
+    #[error("out of memory")]
+    Memory,
+}

@@ -22,3 +22,4 @@ pub mod SchemaLoops
 pub mod FirstMarkLaws
 pub mod MarkLoops
 pub mod PlainLaws
+pub mod SchemaReadLaws

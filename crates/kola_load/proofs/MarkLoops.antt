@@ -1,6 +1,6 @@
 -- Loops that look for the first fault along a list.
-use Rattle.std.proofs.Common.{◌≡◌, ◌<◌, ◌+◌, ℕ, Bool, true, false, not, cond, if◌then◌else◌, List, [], ◌∷◌, ◌++◌, length, get_or, map, drop, Option, fold, refl, sym, ap, subst, ◌∙◌, append_assoc}
-use Rattle.std.proofs.lemmas.List.{drop_more, get_or-map, length-map, append-nil, map-append}
+use Rattle.std.proofs.Common.{◌≡◌, ◌<◌, ◌+◌, ℕ, Bool, true, false, not, cond, if◌then◌else◌, List, [], ◌∷◌, ◌++◌, length, get_or, map, drop, take, Option, fold, refl, sym, ap, subst, ◌∙◌, append_assoc}
+use Rattle.std.proofs.lemmas.List.{drop_more, take_more, get_or-map, length-map, append-nil, map-append}
 use Rattle.kola_values.specs.Schemas.{is_listed}
 use Rattle.kola_load.specs.declared.schema_fault.Mark.{Mark}
 use Rattle.kola_load.specs.declared.schema_fault.NameWhy.{NameWhy}
@@ -98,3 +98,24 @@ extents_seen (x ∷ xs) = ap (λ (z : List Named). named_view x.extent ∷ z) (e
 pub word_added : {X : Type 0} (f : X → List ℕ) (keys : List X) (x : X) (b : Bool) → map f (if b then keys else keys ++ x ∷ []) ≡ cond b (map f keys) (map f keys ++ f x ∷ [])
 word_added f keys x true = refl
 word_added f keys x false = map-append f keys (x ∷ [])
+
+-- one more entry is copied
+pub copied_step : {X A B Z : Type 0} (seen : Z → B) (f : A → B) (view : X → A) (xs : List X) (i : ℕ) (d : X) (old new : List Z) (z : Z) → i < length xs → map seen old ≡ take i (map f (map view xs)) → seen z ≡ f (view (get_or xs i d)) → new ≡ old ++ z ∷ []
+    → map seen new ≡ take (i + 1) (map f (map view xs))
+copied_step seen f view xs i d old new z p h e k =
+    let us = map f (map view xs) in
+    let here : get_or us i (f (view d)) ≡ f (view (get_or xs i d)) = get_or-map f (map view xs) i (view d) (f (view d)) (subst (λ n. i < n) (sym (length-map xs view)) p) ∙ ap f (get_or-map view xs i d (view d) p) in
+    let within : i < length us = subst (λ n. i < n) (sym (length-map (map view xs) f ∙ length-map xs view)) p in
+    ap (map seen) k
+    ∙ map-append seen old (z ∷ [])
+    ∙ (λ j. h j ++ e j ∷ [])
+    ∙ sym (take_more us i (f (view d)) within ∙ (λ j. take i us ++ here j ∷ []))
+
+pub map_same : {B : Type 0} (bs : List B) → map (λ b. b) bs ≡ bs
+map_same [] = refl
+map_same (b ∷ bs) = ap (λ z. b ∷ z) (map_same bs)
+
+-- the same for a list that is seen as it is
+pub pushed_step : {X A B : Type 0} (f : A → B) (view : X → A) (xs : List X) (i : ℕ) (d : X) (old new : List B) (b : B) → i < length xs → old ≡ take i (map f (map view xs)) → b ≡ f (view (get_or xs i d)) → new ≡ old ++ b ∷ []
+    → new ≡ take (i + 1) (map f (map view xs))
+pushed_step f view xs i d old new b p h e k = sym (map_same new) ∙ copied_step (λ z. z) f view xs i d old new b p (map_same old ∙ h) e k

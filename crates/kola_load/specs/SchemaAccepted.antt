@@ -3,6 +3,8 @@ use Rattle.std.specs.Prelude.{◌≡◌, ℕ, List, Result, Ok, Err, length}
 use Rattle.kola_base.specs.declared.lex.Token.{Token}
 use Rattle.kola_base.specs.Tokens.{AreTokens, StopsAt}
 use Rattle.kola_base.specs.Placed.{Placed, placed, place}
+use Rattle.kola_parse.specs.declared.stop.Stop.{Stop}
+use Rattle.kola_parse.specs.declared.stop.Stop.TheVariants as stop
 use Rattle.kola_parse.specs.declared.why.Why.{Why}
 use Rattle.kola_parse.specs.declared.why.Why.TheVariants as why
 use Rattle.kola_parse.specs.Reader.{Fault}
@@ -88,3 +90,8 @@ name_why name.UnknownKeyAttribute = UnknownKeyAttribute
 abbrev pub IsMarked : List ClassAt → SchemaFault → Type 0
 IsMarked cs Memory = Unit {0}
 IsMarked cs (At at w) = (y : NameWhy) × (w ≡ name_why y) × IsFirst cs (record { at = at; why = y })
+
+-- the fault is where the syntax stopped, in a text of so many bytes
+abbrev pub IsStopped : ℕ → Stop (List Placed) → SchemaFault → Type 0
+IsStopped end stop.Memory f = f ≡ Memory
+IsStopped end (stop.Before y r) f = f ≡ At (place end r) (syntax_why y)

@@ -1,6 +1,10 @@
 //! Why a text is no schema, and where.
 
+ghost use Rattle.std.specs.Prelude.{◌≡◌};
+ghost use Rattle.kola_load.specs.declared.schema_fault.SchemaFault.TheVariants.{Memory};
+
 use kola_base::LexWhy;
+use std::alloc::AllocError;
 use thiserror::Error;
 
 /// Why a name is at fault.
@@ -58,4 +62,12 @@ pub enum SchemaFault {
     /// Memory was wanted.
     #[error("out of memory")]
     Memory,
+}
+
+impl From<AllocError> for SchemaFault {
+    ghost from_gives = { λ _ e. e ≡ Memory };
+
+    fn from(_e: AllocError) -> Self {
+        SchemaFault::Memory
+    }
 }

@@ -3,6 +3,7 @@
 
 mod schema_alphabet;
 mod schema_fault;
+mod schema_laws;
 mod schema_names;
 mod schema_plain;
 mod schema_read;
@@ -11,4 +12,5 @@ mod schema_tree;
 mod word_table;
 
 pub use schema_fault::{SchemaFault, SchemaWhy};
+pub use schema_laws::a_text_is_one_schema_or_has_one_fault;
 pub use schema_read::read_schema;

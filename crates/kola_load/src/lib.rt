@@ -12,6 +12,7 @@ mod names;
 mod objects;
 mod schema_alphabet;
 mod schema_fault;
+mod schema_laws;
 mod schema_names;
 mod schema_plain;
 mod schema_read;
@@ -23,6 +24,7 @@ mod word_table;
 pub use db::read_db;
 pub use fault::DbFault;
 pub use schema_fault::{SchemaFault, SchemaWhy};
+pub use schema_laws::a_text_is_one_schema_or_has_one_fault;
 pub use schema_read::read_schema;
 
 #[cfg(test)]

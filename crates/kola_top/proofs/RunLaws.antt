@@ -11,7 +11,9 @@ use Rattle.kola_top.specs.declared.status.Status.{Status}
 use Rattle.kola_top.specs.declared.status.Status.TheVariants as statuses
 use Rattle.kola_top.specs.Words.{action_of}
 use Rattle.kola_top.specs.FaultLines.{usage_line, too_long_line}
-use Rattle.kola_top.specs.Answer.{greatest_length, text_at, QueryAnswer, AnswerAt, RunAnswer, not_built, report, ActionAnswer, Answer, usage, too_long, layout, in_layout}
+use Rattle.kola_values.specs.Databases.{Classes}
+use Rattle.kola_top.specs.SelectForm.{SelectForm}
+use Rattle.kola_top.specs.Answer.{greatest_length, text_at, text_in, DatabaseAnswer, refused, report, QueryAnswer, not_built, built, TextsAnswer, no_schema, under, AnswerAt, RunAnswer, ActionAnswer, Answer, usage, too_long, layout, in_layout}
 use Rattle.kola_top.specs.Runs.{Tells, Wrote, Completes, Sent, whole, front, is_written}
 use Rattle.kola_top.proofs.AnswerLaws.{one_answer}
 
@@ -48,16 +50,24 @@ silent before after m n due _ bytes written (whole sent) (inr e) = let wrong : I
 silent before after m n due _ bytes written (front k proper sent rose) (inl e) = cc
 silent before after m n due _ bytes written (front k proper sent rose) (inr e) = cc
 
-text_usage : (text : List ℕ) (s : Status) (b : List ℕ) → QueryAnswer text s b → s ≡ statuses.Usage → ⊥
-text_usage text _ _ (not_built h) u = cc
-text_usage text _ _ (report f h) u = cc
+database_usage : (S : Classes) (text : List ℕ) (f : SelectForm) (s : Status) (b : List ℕ) → DatabaseAnswer S text f s b → s ≡ statuses.Usage → ⊥
+database_usage S text f _ _ (refused e h) u = cc
+database_usage S text f _ _ (report j os a p) u = cc
 
-place_usage : (job : List ℕ) (n : ℕ) (o : Option Span) (s : Status) (b : List ℕ) → AnswerAt job n o s b → s ≡ statuses.Usage → ⊥
-place_usage job n None s b h u = let wrong : statuses.Layout ≡ statuses.Usage = sym h.0 ∙ u in cc
-place_usage job n (Some p) s b h u = text_usage (text_at job p) s b h u
+text_usage : (S : Classes) (database query : List ℕ) (s : Status) (b : List ℕ) → QueryAnswer S database query s b → s ≡ statuses.Usage → ⊥
+text_usage S database query _ _ (not_built h) u = cc
+text_usage S database query _ _ (built f s b h d) u = database_usage S database f s b d u
+
+under_usage : (schema database query : List ℕ) (s : Status) (b : List ℕ) → TextsAnswer schema database query s b → s ≡ statuses.Usage → ⊥
+under_usage schema database query _ _ (no_schema at why h) u = cc
+under_usage schema database query _ _ (under S s b h d) u = text_usage S database query s b d u
+
+place_usage : (job : List ℕ) (found : Sections) (o : Option Span) (s : Status) (b : List ℕ) → AnswerAt job found o s b → s ≡ statuses.Usage → ⊥
+place_usage job found None s b h u = let wrong : statuses.Layout ≡ statuses.Usage = sym h.0 ∙ u in cc
+place_usage job found (Some p) s b h u = under_usage (text_in job found.schema) (text_in job found.database) (text_at job p) s b h u
 
 run_usage : (job : List ℕ) (found : Sections) (s : Status) (b : List ℕ) → RunAnswer job found s b → s ≡ statuses.Usage → ⊥
-run_usage job found s b h u = place_usage job found.lines found.query s b h u
+run_usage job found s b h u = place_usage job found found.query s b h u
 
 action_usage : (a : Action) (job : List ℕ) (found : Sections) (s : Status) (b : List ℕ) → ActionAnswer a job found s b → s ≡ statuses.Usage → ⊥
 action_usage Run = run_usage

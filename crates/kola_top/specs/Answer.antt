@@ -1,5 +1,5 @@
--- The answer to the words and a job: its status and the bytes that are written. It is the first refusal in the order words, length, layout, missing section, query text, and else the report.
-use Rattle.std.specs.Prelude.{◌≡◌, ℕ, ◌<◌, ◌≤◌, true, Option, List, length, slice_range, Some, None, codes}
+-- The answer to the words and a job: its status and the bytes that are written. It is the first refusal in the order words, length, layout, missing section, schema text, query text, database text, and else the report.
+use Rattle.std.specs.Prelude.{◌≡◌, ℕ, ◌<◌, ◌≤◌, true, Option, List, [], length, slice_range, Some, None, Ok, codes}
 use Rattle.kola_top.specs.declared.section.Span.{Span}
 use Rattle.kola_top.specs.declared.section.Sections.{Sections}
 use Rattle.kola_top.specs.declared.layout.LayoutFault.{LayoutFault}
@@ -16,12 +16,24 @@ use Rattle.kola_top.specs.SelectForm.{SelectForm, Says}
 use Rattle.kola_top.specs.SelectMeaning.{value_of_form, translation, visits_of_form}
 use Rattle.kola_text.specs.Spelling.{fun_spelling}
 use Rattle.kola_values.specs.Spelling.{value_spelling}
+use Rattle.kola_values.specs.Databases.{Classes, Objects}
+use Rattle.serde_json.specs.Data.{Data}
+use Rattle.kola_load.specs.Loading.{db_of}
+use Rattle.kola_load.specs.Loaded.{Reads, IsFirstFault as IsFirstDbFault}
+use Rattle.kola_load.specs.SchemaAccepted.{Writes, FaultOf}
+use Rattle.kola_load.specs.declared.schema_fault.SchemaWhy.{SchemaWhy}
+use Rattle.kola_load.specs.declared.fault.DbFault.{DbFault}
+use Rattle.kola_load.specs.declared.fault.DbFault.TheVariants.{Memory}
 use Rattle.kola_top.specs.Report.{Report, report_text}
-use Rattle.kola_top.specs.FaultLines.{usage_line, too_long_line, layout_fault_line, missing_line, not_built_line}
+use Rattle.kola_top.specs.FaultLines.{usage_line, too_long_line, layout_fault_line, missing_line, not_built_line, schema_line, database_line}
 
 -- the greatest length of a job, in bytes
 abbrev pub greatest_length : ℕ
 greatest_length = 16777216
+
+-- how deep sets may nest in a type of a schema
+abbrev pub greatest_nesting : ℕ
+greatest_nesting = 100
 
 -- the text of a section
 abbrev pub text_at : List ℕ → Span → List ℕ
@@ -55,19 +67,39 @@ abbrev pub IsQueryReading : List ℕ → Option SelectForm → Type 0
 IsQueryReading text (Some f) = IsQuery text f
 IsQueryReading text None = (f : SelectForm) → IsQuery text f → ⊥
 
--- the answer to the text of a query
-pub data QueryAnswer (text : List ℕ) : Status → List ℕ → Type 0 where
-  not_built : ((f : SelectForm) → IsQuery text f → ⊥) → QueryAnswer text statuses.Query not_built_line
-  report : (f : SelectForm) → IsQuery text f → QueryAnswer text statuses.Ok (report_text (report_of_form f))
+-- the text of a section; one that is absent is empty
+abbrev pub text_in : List ℕ → Option Span → List ℕ
+text_in job None = []
+text_in job (Some p) = text_at job p
+
+-- a fault of a database; want of memory is none
+abbrev pub IsRefused : Classes → List ℕ → DbFault → Type 0
+IsRefused S text Memory = ⊥
+IsRefused S text f = IsFirstDbFault S text f
+
+-- the answer to a query of the form on the text of a database
+pub data DatabaseAnswer (S : Classes) (database : List ℕ) (f : SelectForm) : Status → List ℕ → Type 0 where
+  refused : (e : DbFault) → IsRefused S database e → DatabaseAnswer S database f statuses.Database (database_line e)
+  report : (j : Data) (os : Objects) → Reads database j → db_of S j ≡ Ok os → DatabaseAnswer S database f statuses.Ok (report_text (report_of_form f))
+
+-- the answer to the texts of a database and a query
+pub data QueryAnswer (S : Classes) (database query : List ℕ) : Status → List ℕ → Type 0 where
+  not_built : ((f : SelectForm) → IsQuery query f → ⊥) → QueryAnswer S database query statuses.Query not_built_line
+  built : (f : SelectForm) (status : Status) (bytes : List ℕ) → IsQuery query f → DatabaseAnswer S database f status bytes → QueryAnswer S database query status bytes
+
+-- the answer to the texts of a schema, a database and a query
+pub data TextsAnswer (schema database query : List ℕ) : Status → List ℕ → Type 0 where
+  no_schema : (at : ℕ) (why : SchemaWhy) → FaultOf greatest_nesting schema at why → TextsAnswer schema database query statuses.Schema (schema_line at why)
+  under : (S : Classes) (status : Status) (bytes : List ℕ) → Writes greatest_nesting schema S → QueryAnswer S database query status bytes → TextsAnswer schema database query status bytes
 
 -- where the query's text lies at a place, or nowhere in a job of so many lines
-abbrev pub AnswerAt : List ℕ → ℕ → Option Span → Status → List ℕ → Type 0
-AnswerAt job lines None status bytes = (status ≡ statuses.Layout) × (bytes ≡ missing_line lines (codes "query"))
-AnswerAt job lines (Some p) status bytes = QueryAnswer (text_at job p) status bytes
+abbrev pub AnswerAt : List ℕ → Sections → Option Span → Status → List ℕ → Type 0
+AnswerAt job found None status bytes = (status ≡ statuses.Layout) × (bytes ≡ missing_line found.lines (codes "query"))
+AnswerAt job found (Some p) status bytes = TextsAnswer (text_in job found.schema) (text_in job found.database) (text_at job p) status bytes
 
 -- the answer of `run` to a job whose sections were found
 abbrev pub RunAnswer : List ℕ → Sections → Status → List ℕ → Type 0
-RunAnswer job found status bytes = AnswerAt job found.lines found.query status bytes
+RunAnswer job found status bytes = AnswerAt job found found.query status bytes
 
 abbrev pub ActionAnswer : Action → List ℕ → Sections → Status → List ℕ → Type 0
 ActionAnswer Run = RunAnswer

@@ -49,7 +49,9 @@ trim_blanks bytes = take (length bytes - suffix_len is_blank bytes) bytes
 -- the section that a header names
 unfoldable pub section_of : List ℕ → Option Section
 section_of header =
-    if bytes_eq header (codes "%% query") then Some Query
+    if bytes_eq header (codes "%% schema") then Some Schema
+    else if bytes_eq header (codes "%% database") then Some Database
+    else if bytes_eq header (codes "%% query") then Some Query
     else None
 
 -- the section's place among the sections

@@ -1,11 +1,11 @@
 //! The answer to a job that was read: its status and the bytes that are written.
 
-ghost use Rattle.std.specs.Prelude.{◌≡◌, ◌≤◌, ◌<◌, ℕ, List, IfOk, IsTrue, Some, length, filter, codes};
+ghost use Rattle.std.specs.Prelude.{◌≡◌, ◌≤◌, ◌<◌, ℕ, List, IfOk, IfSome, IsTrue, Some, length, filter, codes};
 ghost use Rattle.kola_values.specs.Values.{VSet, of_items};
 ghost use Rattle.kola_values.specs.Spelling.{value_spelling};
 ghost use Rattle.kola_term.specs.Terms.{CSet, FId, FSnd, FComp, FPair, FK, FIter};
 ghost use Rattle.kola_text.specs.Spelling.{fun_spelling};
-ghost use Rattle.kola_top.specs.Answer.{Answer, QueryAnswer, RunAnswer, greatest_length, report_of_form, unchanged_report};
+ghost use Rattle.kola_top.specs.Answer.{Answer, DatabaseAnswer, QueryAnswer, TextsAnswer, RunAnswer, text_in, greatest_length, report_of_form, unchanged_report};
 ghost use Rattle.kola_top.specs.FaultLines.{missing_line};
 ghost use Rattle.kola_top.specs.FormViews.{form_view};
 ghost use Rattle.kola_top.specs.Layout.{AreSections};
@@ -14,20 +14,22 @@ ghost use Rattle.kola_top.specs.Runs.{is_written};
 ghost use Rattle.kola_top.specs.SelectMeaning.{condition, is_below};
 ghost use Rattle.kola_top.specs.Words.{action_of};
 
+use crate::fault_lines::{database_line, schema_line};
 use crate::form::SelectForm;
 use crate::layout::sections;
 use crate::output::{Report, layout_fault_line, missing_line, query_line, report_text};
 use crate::query::query_of;
-use crate::section::Sections;
+use crate::section::{Sections, Span};
 use crate::select::{literals_of, members_below, translate};
 use crate::select_laws::{select_is_evaluated_rightly, select_is_translated_rightly};
 use crate::status::Status;
 use crate::words::Action;
 use kola_core::Memory;
+use kola_load::{DbFault, SchemaFault, read_db, read_schema};
 use kola_term::{LitSet, Term};
 use kola_text::print_term;
-use kola_values::{Set, push_set};
-use std::alloc::Global;
+use kola_values::{Schema, Set, push_set};
+use std::alloc::{AllocError, Global};
 
 /// The status of an answer and the bytes that are written.
 #[derive(Drop)]
@@ -96,15 +98,28 @@ fn report_on(alloc: Global, form: &SelectForm<'_>) -> Result<Vec<u8>, Memory>
     Ok(bytes)
 }
 
+/// The text of a section; one that is absent is empty.
+fn text_in<'a>(job: &'a [u8], place: Option<Span>) -> &'a [u8]
+    requires { IfSome place (λ p. (p.from ≤ p.to) × (p.to ≤ length job.now)) }
+    ensures { result.now ≡ text_in job.now place }
+{
+    match place {
+        None => &[],
+        Some(span) => &job[span.from..span.to],
+    }
+}
+
 /// The answer of `run` to a job whose sections were found.
 fn run_answer(alloc: Global, job: &[u8], found: &Sections) -> Result<Reply, Memory>
     requires length { length job.now ≤ greatest_length }
     requires found { AreSections job.now found.now }
     ensures { IfOk result (λ reply. RunAnswer job.now found.now reply.status reply.bytes.items) }
 {
+    let schema = text_in(job, found.schema);
+    let database = text_in(job, found.database);
     match found.query {
         None => missing_answer(alloc, found.lines),
-        Some(span) => query_answer(alloc, &job[span.from..span.to]),
+        Some(span) => texts_answer(alloc, schema, database, &job[span.from..span.to]),
     }
 }
 
@@ -120,23 +135,73 @@ fn missing_answer(alloc: Global, lines: u64) -> Result<Reply, Memory>
     })
 }
 
-/// The answer to the text of a query.
-fn query_answer(alloc: Global, text: &[u8]) -> Result<Reply, Memory>
-    ensures { IfOk result (λ reply. QueryAnswer text.now reply.status reply.bytes.items) }
+/// The answer to the texts of a schema, a database and a query.
+fn texts_answer(
+    alloc: Global,
+    schema: &[u8],
+    database: &[u8],
+    query: &[u8],
+) -> Result<Reply, Memory>
+    ensures { IfOk result (λ reply. TextsAnswer schema.now database.now query.now reply.status reply.bytes.items) }
 {
-    match query_of(alloc, text)? {
-        Some(form) => {
-            let bytes = report_on(alloc, &form)?;
+    match read_schema(alloc, schema) {
+        Ok(schema) => query_answer(alloc, &schema, database, query),
+        Err(SchemaFault::Memory) => Err(AllocError),
+        Err(SchemaFault::At { at, why }) => {
+            let line = schema_line(alloc, at, why)?;
             Ok(Reply {
-                status: Status::Ok,
-                bytes,
+                status: Status::Schema,
+                bytes: line.into_bytes(),
             })
         }
+    }
+}
+
+/// The answer to the texts of a database and a query.
+fn query_answer(
+    alloc: Global,
+    schema: &Schema,
+    database: &[u8],
+    query: &[u8],
+) -> Result<Reply, Memory>
+    ensures { IfOk result (λ reply. QueryAnswer schema.now database.now query.now reply.status reply.bytes.items) }
+{
+    match query_of(alloc, query)? {
+        Some(form) => database_answer(alloc, schema, database, &form),
         None => {
             let line = query_line(alloc, 0, "NotBuilt")?;
             Ok(Reply {
                 status: Status::Query,
                 bytes: line.into_bytes(),
+            })
+        }
+    }
+}
+
+/// The answer to a query of the form on the text of a database.
+fn database_answer(
+    alloc: Global,
+    schema: &Schema,
+    database: &[u8],
+    form: &SelectForm<'_>,
+) -> Result<Reply, Memory>
+    requires { 0 < length form.now.numbers.items }
+    ensures { IfOk result (λ reply. DatabaseAnswer schema.now database.now (form_view form.now) reply.status reply.bytes.items) }
+{
+    match read_db(alloc, schema, database) {
+        Ok(_database) => {
+            let bytes = report_on(alloc, form)?;
+            Ok(Reply {
+                status: Status::Ok,
+                bytes,
+            })
+        }
+        Err(DbFault::Memory) => Err(AllocError),
+        Err(fault) => {
+            let bytes = database_line(alloc, &fault)?;
+            Ok(Reply {
+                status: Status::Database,
+                bytes,
             })
         }
     }

@@ -5,7 +5,7 @@ ghost use Rattle.std.specs.Io.KnownBytes.{IsAtEnd};
 ghost use Rattle.std.specs.String.{string_bytes};
 ghost use Rattle.kola_base.specs.Causes.{Rose};
 ghost use Rattle.kola_top.specs.Answer.{Answer};
-ghost use Rattle.kola_top.specs.Causes.{IsTooLong, HasNoLayout, HasNoQuery};
+ghost use Rattle.kola_top.specs.Causes.{IsTooLong, HasNoLayout, HasNoSchema, HasNoQuery, HasNoDatabase};
 ghost use Rattle.kola_top.specs.Runs.{Tells, Completes, Sent, is_written};
 ghost use Rattle.kola_top.specs.declared.status.Status.{Status};
 ghost use Rattle.kola_top.specs.Words.{action_of};
@@ -67,8 +67,8 @@ fn run_command<S: Source, K: Sink>(
 
 /// Does all that the program does: it reads the job that the words ask for, answers it, and says how it ended.
 ///
-/// The refusals come in the order words, reading, length, layout, a missing section, the query's text; writing comes
-/// last. The whole answer is built before the first byte is written.
+/// The refusals come in the order words, reading, length, layout, a missing section, the schema's text, the query's text, the database's
+/// text; writing comes last. The whole answer is built before the first byte is written.
 pub fn run_kola<S: Source, K: Sink>(
     alloc: Global,
     words: &[String],
@@ -98,7 +98,9 @@ pub fn run_kola<S: Source, K: Sink>(
     // Of a source that tells its bytes, each refusal comes only where its cause does; `complete` says that it comes there.
     ensures too_long { IfSome (S.left source.old) (λ job. result ≡ Status.TooLong → IsTooLong (map string_bytes words.now) job) }
     ensures layout { IfSome (S.left source.old) (λ job. result ≡ Status.Layout → HasNoLayout (map string_bytes words.now) job) }
+    ensures schema { IfSome (S.left source.old) (λ job. result ≡ Status.Schema → HasNoSchema (map string_bytes words.now) job) }
     ensures query { IfSome (S.left source.old) (λ job. result ≡ Status.Query → HasNoQuery (map string_bytes words.now) job) }
+    ensures database { IfSome (S.left source.old) (λ job. result ≡ Status.Database → HasNoDatabase (map string_bytes words.now) job) }
 {
     run_command(alloc, words, source, sink)
 }

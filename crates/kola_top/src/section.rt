@@ -28,6 +28,8 @@ pub fn section_of(header: &[u8]) -> Option<Section>
     ensures { result ≡ section_of header.now }
 {
     match header {
+        _ if header == b"%% schema".as_slice() => Some(Section::Schema),
+        _ if header == b"%% database".as_slice() => Some(Section::Database),
         _ if header == b"%% query".as_slice() => Some(Section::Query),
         _ => None,
     }

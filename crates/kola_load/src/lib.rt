@@ -2,6 +2,7 @@
 #![tactic(auto)]
 
 mod db;
+mod db_laws;
 mod elements;
 mod extents;
 mod fault;
@@ -13,6 +14,7 @@ mod objects;
 mod values;
 
 pub use db::read_db;
+pub use db_laws::a_text_has_one_answer;
 pub use fault::DbFault;
 
 #[cfg(test)]

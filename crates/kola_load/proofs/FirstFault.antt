@@ -1,5 +1,5 @@
--- No fault of a value is that there is no value.
-use Rattle.std.proofs.Common.{◌≡◌, ℕ, Bool, true, false, List, [], ◌∷◌, ◌++◌, Option, Some, None, length, option_map, ap}
+-- No fault of a value is that there is no value, and a text has one answer.
+use Rattle.std.proofs.Common.{◌≡◌, ℕ, Bool, true, false, List, [], ◌∷◌, ◌++◌, Option, Some, None, length, option_map, ap, ◌⊎◌, inl, inr, refl, sym, ◌∙◌, Err}
 use Rattle.std.specs.Option.{option_or}
 use Rattle.serde_json.specs.Data.{Data}
 use Rattle.serde_json.specs.Find.{get}
@@ -7,8 +7,9 @@ use Rattle.kola_values.specs.Types.{TypeTree}
 use Rattle.kola_values.specs.Databases.{Class, Object, Classes, Objects}
 use Rattle.kola_load.specs.Json.{elements, own_id}
 use Rattle.kola_load.specs.Written.{id_in, written, extent_of, is_there, objects_in}
-use Rattle.kola_load.specs.Loaded.{Reads, IsFirstFault}
-use Rattle.kola_load.specs.Loading.{Test, unless, first_of, first_among, members_fault, id_fault, element_fault, array_fault, extent_fault, value_fault, attribute_fault, object_fault, objects_fault, key_fault, keys_fault, db_fault, or_objects}
+use Rattle.kola_load.specs.Loaded.{Reads, IsLoaded, IsFirstFault, OneAnswer}
+use Rattle.kola_values.specs.Stored.{Database}
+use Rattle.kola_load.specs.Loading.{Test, unless, first_of, first_among, members_fault, id_fault, element_fault, array_fault, extent_fault, value_fault, attribute_fault, object_fault, objects_fault, key_fault, keys_fault, db_fault, or_objects, db_of}
 use Rattle.kola_load.specs.declared.fault.DbFault.{DbFault}
 use Rattle.kola_load.specs.declared.fault.DbFault.TheVariants.{NotJson, NotObject, UnknownExtent, NotAnArray, NotAnObject, TwiceId, UnknownAttribute, WrongType, NoSuchObject, KeyRepeats, Memory}
 
@@ -80,3 +81,38 @@ pub first_fault : (S : Classes) (text : List ℕ) (j : Data) → Reads text j �
 first_fault S text j r Memory h = tt
 first_fault S text j r NotJson h = absurd (no_json_fault S j (h (λ e. cc)))
 first_fault S text j r f h = (j, r, ap (λ o. or_objects o (written S j)) (h (λ e. cc)))
+
+-- ---- one answer to a text
+
+-- the text has no reading, or one with the fault
+abbrev Said : Classes → List ℕ → DbFault → Type 0
+Said S text f = ((f ≡ NotJson) × ((j : Data) → Reads text j → ⊥)) ⊎ ((j : Data) × Reads text j × (db_of S j ≡ Err f))
+
+said : (S : Classes) (text : List ℕ) (f : DbFault) → (f ≡ Memory → ⊥) → IsFirstFault S text f → Said S text f
+said S text Memory n h = absurd (n refl)
+said S text NotJson n h = inl (refl, h)
+said S text f n h = inr h
+
+one_reading : (text : List ℕ) (j k : Data) → Reads text j → Reads text k → j ≡ k
+one_reading text j k r s = let a = r.1 in let b = s.1 in cc
+
+pub one_answer : OneAnswer
+one_answer S text f n h = (λ db l. no_database (said S text f n h) db l, λ g m i. one_fault g (said S text f n h) (said S text g m i))
+  where
+    no_database : Said S text f → (db : Database) → IsLoaded S text db → ⊥
+    no_database (inl a) db l = a.1 l.value l.reads
+    no_database (inr a) db l =
+        let e = one_reading text a.0 l.value a.1 l.reads in
+        let w = ap (db_of S) e ∙ l.writes in
+        let x = a.2 in
+        cc
+
+    one_fault : (g : DbFault) → Said S text f → Said S text g → g ≡ f
+    one_fault g (inl a) (inl b) = b.0 ∙ sym a.0
+    one_fault g (inl a) (inr b) = absurd (a.1 b.0 b.1)
+    one_fault g (inr a) (inl b) = absurd (b.1 a.0 a.1)
+    one_fault g (inr a) (inr b) =
+        let e = ap (db_of S) (one_reading text a.0 b.0 a.1 b.1) in
+        let x = a.2 in
+        let y = b.2 in
+        cc

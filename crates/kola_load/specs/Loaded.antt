@@ -36,3 +36,8 @@ abbrev pub IsFirstFault : Classes → List ℕ → DbFault → Type 0
 IsFirstFault S text Memory = Unit {0}
 IsFirstFault S text NotJson = (j : Data) → Reads text j → ⊥
 IsFirstFault S text f = (j : Data) × Reads text j × (db_of S j ≡ Err f)
+
+-- a text with a fault has no database, and no other fault
+abbrev pub OneAnswer : Type 0
+OneAnswer = (S : Classes) (text : List ℕ) (f : DbFault) → (f ≡ Memory → ⊥) → IsFirstFault S text f
+    → ((db : Database) → IsLoaded S text db → ⊥) × ((g : DbFault) → (g ≡ Memory → ⊥) → IsFirstFault S text g → g ≡ f)

@@ -39,7 +39,7 @@ references _ d = []
 abbrev pub extent_of : Data → Class → List Data
 extent_of j k = option_map_or elements (get k.extent j) []
 
--- an element of a list has the id
+-- an element has the id; some element of a list has it
 abbrev pub is_id : ℕ → Data → Bool
 is_id i d = option_map_or (λ n. i == n) (own_id d) false
 
@@ -52,9 +52,11 @@ is_there S j r = option_map_or (λ k. is_taken r.1 (extent_of j k)) (class_named
 
 -- ---- objects
 
+-- its id; 0 where it has none, which no object without a fault is
 abbrev pub id_in : Data → ℕ
 id_in d = unwrap_or (own_id d) 0
 
+-- an attribute with the value that its member writes
 abbrev pub attribute_in : Data → List ℕ × TypeTree → List ℕ × ValueTree
 attribute_in d a = (a.0, value_or_unit (option_and_then (value_of a.1) (get a.0 d)))
 

@@ -21,12 +21,14 @@ use kola_values::{Db, ObjectDef, Schema};
 use serde_json::Value;
 use std::alloc::Global;
 
+// Whether a byte is a blank, a tab or one of a line's end.
 fn is_blank(byte: u8) -> bool
     ensures { result ≡ is_blank byte }
 {
     matches!(byte, b' ' | b'\t' | b'\n' | b'\r')
 }
 
+// Whether every byte of a text is.
 fn are_blanks(text: &[u8]) -> bool
     ensures { result ≡ list_all is_blank text.now }
 {

@@ -40,8 +40,7 @@ fn cmp_all(vs: &[&Value], ws: &[&Value]) -> Ordering
 
 impl PartialEq for KeyOf<'_> {
     ghost use Rattle.std.specs.Ordering.{eq_by_cmp};
-    ghost use Rattle.kola_load.specs.KeyViews.{key_cmp};
-    ghost use Rattle.kola_load.specs.KeyViews.{key_equiv};
+    ghost use Rattle.kola_load.specs.KeyViews.{key_cmp, key_equiv};
     ghost use Rattle.std.specs.Cmp.{partial_equiv_from_equiv};
 
     ghost eq = { eq_by_cmp key_cmp };
@@ -62,8 +61,7 @@ impl Eq for KeyOf<'_> {
 impl PartialOrd for KeyOf<'_> {
     ghost use Rattle.std.specs.Ordering.{as_partial_cmp};
     ghost use Rattle.std.specs.Cmp.{partial_order_from_total};
-    ghost use Rattle.kola_load.specs.KeyViews.{key_cmp};
-    ghost use Rattle.kola_load.specs.KeyViews.{key_total};
+    ghost use Rattle.kola_load.specs.KeyViews.{key_cmp, key_total};
 
     ghost partial_cmp = { as_partial_cmp key_cmp };
 
@@ -76,8 +74,7 @@ impl PartialOrd for KeyOf<'_> {
 
 impl Ord for KeyOf<'_> {
     ghost use Rattle.std.specs.Prelude.{refl};
-    ghost use Rattle.kola_load.specs.KeyViews.{key_cmp};
-    ghost use Rattle.kola_load.specs.KeyViews.{key_total};
+    ghost use Rattle.kola_load.specs.KeyViews.{key_cmp, key_total};
 
     ghost cmp = { key_cmp };
 
@@ -92,6 +89,7 @@ impl Ord for KeyOf<'_> {
     }
 }
 
+// The place of a name among attributes.
 fn place_of(attributes: &[(Name, Ty)], a: &Name) -> Option<usize>
     ensures { result ≡ position (λ e. bytes_eq a.now e.0) attributes.now }
 {

@@ -2,6 +2,7 @@
 #![tactic(auto)]
 
 mod db;
+mod db_laws;
 mod elements;
 mod extents;
 mod fault;
@@ -22,6 +23,7 @@ mod values;
 mod word_table;
 
 pub use db::read_db;
+pub use db_laws::a_text_has_one_answer;
 pub use fault::DbFault;
 pub use schema_fault::{SchemaFault, SchemaWhy};
 pub use schema_laws::a_text_is_one_schema_or_has_one_fault;

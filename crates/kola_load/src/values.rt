@@ -15,6 +15,7 @@ use kola_values::{Set, Ty, Value};
 use serde_json::Value as Json;
 use std::alloc::Global;
 
+// The text that a JSON value writes; nothing where it is no string.
 fn text_of(alloc: Global, value: &Json) -> Result<Option<Value>, Memory>
     ensures { IfOk result (λ o. option_map value_tree o ≡ value_of TStr (view value.now)) }
 {
@@ -76,6 +77,7 @@ pub(crate) fn missing(ids: &Ids, t: &Ty, value: &Json) -> Option<u32>
     }
 }
 
+// The same in the values of a type that JSON values write, one after the other.
 #[cycle(missing)]
 fn missing_among(ids: &Ids, t: &Ty, elements: &[Json]) -> Option<u32>
     ensures { result ≡ option_map (λ r. r.1) (find (λ r. not (there ids.now r)) (flat_map (references (type_tree t.now)) (map view elements.now))) }

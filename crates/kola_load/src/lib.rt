@@ -12,3 +12,6 @@ mod word_table;
 
 pub use schema_fault::{SchemaFault, SchemaWhy};
 pub use schema_read::read_schema;
+
+#[cfg(test)]
+mod schema_tests;

@@ -8,3 +8,4 @@ pub mod FirstMarkLaws
 pub mod MarkLoops
 pub mod PlainLaws
 pub mod SchemaReadLaws
+pub mod SchemaAnswers

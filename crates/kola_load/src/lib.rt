@@ -1,4 +1,4 @@
-//! Reads schemas.
+//! Schemas from their text.
 #![tactic(auto)]
 
 mod schema_alphabet;

@@ -24,3 +24,4 @@ pub mod MarkLoops
 pub mod PlainLaws
 pub mod SchemaReadLaws
 pub mod OneSchema
+pub mod SchemaAnswers

@@ -1,4 +1,4 @@
--- Loops that look for the first fault along a list.
+-- Steps of loops over lists that are seen through a view: the first fault so far, the names so far, the copies so far.
 use Rattle.std.proofs.Common.{◌≡◌, ◌<◌, ◌+◌, ℕ, Bool, true, false, not, cond, if◌then◌else◌, List, [], ◌∷◌, ◌++◌, length, get_or, map, drop, take, Option, fold, refl, sym, ap, subst, ◌∙◌, append_assoc}
 use Rattle.std.proofs.lemmas.List.{drop_more, take_more, get_or-map, length-map, append-nil, map-append}
 use Rattle.kola_values.specs.Schemas.{is_listed}

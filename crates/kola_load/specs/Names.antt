@@ -1,5 +1,5 @@
 -- The words that have a meaning in queries, terms and rules: none of them names an extent.
-use Rattle.std.specs.Prelude.{ℕ, ◌||◌, ◌==◌, not, Bool, List, codes}
+use Rattle.std.specs.Prelude.{ℕ, ◌||◌, ◌&&◌, ◌==◌, not, Bool, List, codes}
 use Rattle.std.specs.List.{list_any, slice_split}
 use Rattle.std.specs.Str.{bytes_eq, str_eq_ignore_ascii_case}
 
@@ -29,4 +29,4 @@ is_name word = not (is_among reserved_words word || is_among words_left_out word
 
 -- a name of the query language that is no word of terms or rules
 unfoldable pub is_extent_name : List ℕ → Bool
-is_extent_name word = not (is_among reserved_words word || is_among words_left_out word || is_one_of term_words word)
+is_extent_name word = is_name word && not (is_one_of term_words word)

@@ -95,3 +95,9 @@ IsMarked cs (At at w) = (y : NameWhy) × (w ≡ name_why y) × IsFirst cs (recor
 abbrev pub IsStopped : ℕ → Stop (List Placed) → SchemaFault → Type 0
 IsStopped end stop.Memory f = f ≡ Memory
 IsStopped end (stop.Before y r) f = f ≡ At (place end r) (syntax_why y)
+
+-- what is answered is the fault, unless memory ran out
+abbrev pub IsAt : ℕ → SchemaWhy → Result Classes SchemaFault → Type 0
+IsAt at w (Ok s) = ⊥
+IsAt at w (Err Memory) = Unit {0}
+IsAt at w (Err (At b v)) = (b ≡ at) × (v ≡ w)

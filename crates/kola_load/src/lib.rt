@@ -33,3 +33,5 @@ pub use schema_read::read_schema;
 mod db_samples;
 #[cfg(test)]
 mod db_tests;
+#[cfg(test)]
+mod schema_tests;

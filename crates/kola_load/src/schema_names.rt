@@ -2,7 +2,7 @@
 
 ghost use Rattle.std.specs.Prelude.{◌≡◌, [], map, IfOk};
 ghost use Rattle.std.specs.Str.{str_eq_ignore_ascii_case};
-ghost use Rattle.kola_load.specs.Names.{is_among, is_one_of, is_extent_name};
+ghost use Rattle.kola_load.specs.Names.{is_among, is_one_of, is_name, is_extent_name};
 ghost use Rattle.kola_load.specs.SchemaFaults.{starts_with_capital, rank};
 ghost use Rattle.kola_load.specs.FirstMarks.{goes_before, earlier, unless, first_of, not_allowed, names_from, twice, unknown_class, unknown_key, unknown_keys, unknown_types, first_in_class, first_mark};
 ghost use Rattle.kola_load.specs.SchemaViews.{named_view, type_view, key_view, attribute_view, class_view};
@@ -80,9 +80,9 @@ fn is_one_of(words: &[u8], word: &[u8]) -> bool
     words.split(|byte| *byte == b' ').any(|other| word == other)
 }
 
-#[tactic(auto, unfolding(crate::specs::Names::is_extent_name))]
-fn is_extent_name(word: &[u8]) -> bool
-    ensures { result ≡ is_extent_name word.now }
+#[tactic(auto, unfolding(crate::specs::Names::is_name))]
+fn is_name(word: &[u8]) -> bool
+    ensures { result ≡ is_name word.now }
 {
     !is_among(
         b"select distinct from where as in exists for all and or not union intersect except struct set flatten true false",
@@ -90,10 +90,18 @@ fn is_extent_name(word: &[u8]) -> bool
     ) && !is_among(
         b"element first last unique sum avg min max count bag list array order group by having define nil undefined like",
         word,
-    ) && !is_one_of(
-        b"id fst snd flat union isect minus o K C if iterate iter join nest unnest eq lt le in inv KP CP ex fa true false count rule block at when inj proof by rev qed here pred set unit int string bool SKIP FAIL BU TD REPEAT GIVEN DO END",
-        word,
     )
+}
+
+#[tactic(auto, unfolding(crate::specs::Names::is_extent_name))]
+fn is_extent_name(word: &[u8]) -> bool
+    ensures { result ≡ is_extent_name word.now }
+{
+    is_name(word)
+        && !is_one_of(
+            b"id fst snd flat union isect minus o K C if iterate iter join nest unnest eq lt le in inv KP CP ex fa true false count rule block at when inj proof by rev qed here pred set unit int string bool SKIP FAIL BU TD REPEAT GIVEN DO END",
+            word,
+        )
 }
 
 fn not_allowed(class: &ClassAt<'_>) -> Option<Mark>

@@ -1,12 +1,13 @@
 //! Schemas from their text.
 
-ghost use Rattle.std.specs.Prelude.{◌≡◌, map, IfOk, IfErr};
+ghost use Rattle.std.specs.Prelude.{◌≡◌, map, ℕ, IfOk, IfErr};
 ghost use Rattle.kola_values.specs.Databases.{Classes};
 ghost use Rattle.kola_load.specs.SchemaFaults.{Stands};
 ghost use Rattle.kola_load.specs.SchemaViews.{class_view};
 ghost use Rattle.kola_load.specs.PlainSchemas.{plain, HaveKeys};
-ghost use Rattle.kola_load.specs.SchemaAccepted.{Writes, IsFault, IsSchema, IsMarked, IsStopped, syntax_why, name_why};
+ghost use Rattle.kola_load.specs.SchemaAccepted.{Writes, FaultOf, IsFault, IsAt, IsSchema, IsMarked, IsStopped, syntax_why, name_why};
 ghost use Rattle.kola_load.specs.declared.schema_fault.Mark.{Mark};
+ghost use Rattle.kola_load.specs.declared.schema_fault.SchemaWhy.{SchemaWhy};
 
 use crate::schema_fault::{NameWhy, SchemaFault, SchemaWhy};
 use crate::schema_names::first_mark;
@@ -102,6 +103,8 @@ pub fn read_schema(alloc: Global, text: &[u8]) -> Result<Schema, SchemaFault>
     ensures only { (S : Classes) → Writes SETS text.now S → IsSchema S result }
     // What is refused is refused at its first fault.
     ensures fault { IfErr result (IsFault SETS text.now) }
+    // A text that has a first fault is refused there, unless memory runs out.
+    ensures only_fault { (at : ℕ) (w : SchemaWhy) → FaultOf SETS text.now at w → IsAt at w result }
 {
     schema_within(alloc, text, SETS)
 }

@@ -1,5 +1,5 @@
 -- The words and a job have at most one answer.
-use Rattle.std.proofs.Common.{◌≡◌, ℕ, List, Option, Some, None, Result, Ok, Err, refl, sym, ap, ◌∙◌, subst, arith, IsTrue}
+use Rattle.std.proofs.Common.{◌≡◌, ℕ, List, Option, Some, None, Result, Ok, Err, IfOk, refl, sym, ap, ◌∙◌, subst, arith, IsTrue}
 use Rattle.kola_top.specs.declared.section.Span.{Span}
 use Rattle.kola_top.specs.declared.section.Sections.{Sections}
 use Rattle.kola_top.specs.declared.words.Action.{Action}
@@ -27,6 +27,11 @@ one_query text f g a b =
     one_form (lexemes text b.tokens) f g
     (subst (λ ts. Says (lexemes text ts) f) (one_list a.tokens b.tokens text a.lexed b.lexed) a.says) b.says
 
+-- what follows from an answer
+pub if_ok : {X E : Type 0} {P Q : X → Type 0} (r : Result X E) → ((x : X) → P x → Q x) → IfOk r P → IfOk r Q
+if_ok (Ok x) f h = f x h
+if_ok (Err e) f h = tt
+
 -- ---- databases
 
 some_is : {A : Type 0} (x y : A) → Some x ≡ Some y → x ≡ y
@@ -41,9 +46,9 @@ data Refusal (S : Classes) (text : List ℕ) : DbFault → Type 0 where
   no_value : ((j : Data) → Reads text j → ⊥) → Refusal S text NotJson
 
 refusal : (S : Classes) (text : List ℕ) (e : DbFault) → IsRefused S text e → Refusal S text e
-refusal S text Memory h = absurd h
-refusal S text NotJson h = no_value h
-refusal S text e h = of_value e h.0 h.1 h.2
+refusal S text Memory h = absurd (let e = h.0 in cc)
+refusal S text NotJson h = no_value h.1
+refusal S text e h = of_value e h.1.0 h.1.1 h.1.2
 
 one_fault_of : {X : Type 0} (e f : DbFault) (r : Result X DbFault) → r ≡ Err e → r ≡ Err f → e ≡ f
 one_fault_of e f r p q = cc

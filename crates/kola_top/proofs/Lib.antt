@@ -15,3 +15,4 @@ mod Examples
 mod QueryExamples
 mod SelectLaws
 mod SelectSets
+pub mod CauseLaws

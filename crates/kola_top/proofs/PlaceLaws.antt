@@ -1,5 +1,5 @@
 -- The places of sections lie within the job, and a job has no more lines than bytes.
-use Rattle.std.proofs.Common.{◌≡◌, ℕ, zero, suc, ◌+◌, ◌≤◌, Bool, true, false, List, [], ◌∷◌, length, drop, Some, slice_get, arith, subst, if◌then◌else◌}
+use Rattle.std.proofs.Common.{◌≡◌, ℕ, zero, suc, ◌+◌, ◌≤◌, Bool, true, false, List, [], ◌∷◌, length, drop, Option, Some, None, IfSome, refl, slice_get, arith, subst, if◌then◌else◌}
 use Rattle.kola_top.specs.declared.section.Section.{Section}
 use Rattle.kola_top.specs.declared.section.Span.{Span}
 use Rattle.kola_top.specs.declared.section.Sections.{Sections}
@@ -33,6 +33,14 @@ place_within job found s p a e = at (subst (IsPlaceOf (lines_of job) (length job
     at h =
         let w = behind_line 0 (length job) (lines_of job) h.0 h.1 (row_of job) h.2 in
         (omega (arith, w.0, h.4, h.5), omega (arith, w.1, h.5))
+
+-- the same for a section that may be absent
+pub place_fits : (job : List ℕ) (found : Sections) (s : Section) → AreSections job found → IfSome (place_of s found) (λ (p : Span). (p.from ≤ p.to) × (p.to ≤ length job))
+place_fits job found s a = by (place_of s found) refl
+  where
+    by : (o : Option Span) → place_of s found ≡ o → IfSome o (λ (p : Span). (p.from ≤ p.to) × (p.to ≤ length job))
+    by None e = tt
+    by (Some p) e = place_within job found s p a e
 
 row_long : (from to : ℕ) (ls : List Line) → AreInARow from to ls → from + length ls ≤ to
 row_long from to [] r = omega (arith, r)

@@ -1,5 +1,5 @@
 -- The answer to the words and a job: its status and the bytes that are written. It is the first refusal in the order words, length, layout, missing section, schema text, query text, database text, and else the report.
-use Rattle.std.specs.Prelude.{◌≡◌, ℕ, ◌<◌, ◌≤◌, true, Option, List, [], length, slice_range, Some, None, Ok, codes}
+use Rattle.std.specs.Prelude.{◌≡◌, ℕ, ◌<◌, ◌≤◌, Bool, true, false, Option, List, [], length, slice_range, Some, None, Ok, codes}
 use Rattle.kola_top.specs.declared.section.Span.{Span}
 use Rattle.kola_top.specs.declared.section.Sections.{Sections}
 use Rattle.kola_top.specs.declared.layout.LayoutFault.{LayoutFault}
@@ -72,10 +72,13 @@ abbrev pub text_in : List ℕ → Option Span → List ℕ
 text_in job None = []
 text_in job (Some p) = text_at job p
 
+abbrev pub is_memory : DbFault → Bool
+is_memory Memory = true
+is_memory _ = false
+
 -- a fault of a database; want of memory is none
 abbrev pub IsRefused : Classes → List ℕ → DbFault → Type 0
-IsRefused S text Memory = ⊥
-IsRefused S text f = IsFirstDbFault S text f
+IsRefused S text f = (is_memory f ≡ false) × IsFirstDbFault S text f
 
 -- the answer to a query of the form on the text of a database
 pub data DatabaseAnswer (S : Classes) (database : List ℕ) (f : SelectForm) : Status → List ℕ → Type 0 where

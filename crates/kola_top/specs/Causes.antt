@@ -28,14 +28,14 @@ HasNoLayout words job = IsCommand words × (length job ≤ greatest_length)
 -- the sections of the job were found, and these are the texts of its schema, its database and its query
 pub record HasTexts (words : List (List ℕ)) (job schema database query : List ℕ) : Type 0 where
   pub command : IsCommand words
-  pub length : length job ≤ greatest_length
+  pub is_short : length job ≤ greatest_length
   pub found : Sections
   pub sections : AreSections job found
   pub place : Span
   pub at : found.query ≡ Some place
-  pub schema : schema ≡ text_in job found.schema
-  pub database : database ≡ text_in job found.database
-  pub query : query ≡ text_at job place
+  pub is_schema : schema ≡ text_in job found.schema
+  pub is_database : database ≡ text_in job found.database
+  pub is_query : query ≡ text_at job place
 
 -- the schema's text is at fault
 abbrev pub HasNoSchema : List (List ℕ) → List ℕ → Type 0

@@ -5,7 +5,7 @@ ghost use Rattle.kola_values.specs.Values.{VSet, of_items};
 ghost use Rattle.kola_values.specs.Spelling.{value_spelling};
 ghost use Rattle.kola_term.specs.Terms.{CSet, FId, FSnd, FComp, FPair, FK, FIter};
 ghost use Rattle.kola_text.specs.Spelling.{fun_spelling};
-ghost use Rattle.kola_top.specs.Answer.{Answer, DatabaseAnswer, QueryAnswer, TextsAnswer, RunAnswer, text_in, greatest_length, report_of_form, unchanged_report};
+ghost use Rattle.kola_top.specs.Answer.{Answer, DatabaseAnswer, QueryAnswer, TextsAnswer, RunAnswer, is_memory, text_in, greatest_length, report_of_form, unchanged_report};
 ghost use Rattle.kola_top.specs.FaultLines.{missing_line};
 ghost use Rattle.kola_top.specs.FormViews.{form_view};
 ghost use Rattle.kola_top.specs.Layout.{AreSections};
@@ -178,6 +178,12 @@ fn query_answer(
     }
 }
 
+fn is_memory(fault: &DbFault) -> bool
+    ensures { result ≡ is_memory fault.now }
+{
+    matches!(fault, DbFault::Memory)
+}
+
 /// The answer to a query of the form on the text of a database.
 fn database_answer(
     alloc: Global,
@@ -196,8 +202,10 @@ fn database_answer(
                 bytes,
             })
         }
-        Err(DbFault::Memory) => Err(AllocError),
         Err(fault) => {
+            if is_memory(&fault) {
+                return Err(AllocError);
+            }
             let bytes = database_line(alloc, &fault)?;
             Ok(Reply {
                 status: Status::Database,

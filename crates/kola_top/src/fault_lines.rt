@@ -1,6 +1,6 @@
 //! The lines of the faults of schemas and databases.
 
-ghost use Rattle.std.specs.Prelude.{◌≡◌, ◌++◌, IfOk, OnOk};
+ghost use Rattle.std.specs.Prelude.{◌≡◌, ◌++◌, IfOk, OnOk, codes};
 ghost use Rattle.std.specs.String.{string_bytes};
 ghost use Rattle.kola_top.specs.FaultLines.{lex_cause, schema_cause, schema_line, name_field, text_field, number_field, at_number, database_cause, database_line};
 
@@ -74,6 +74,66 @@ fn push_cause(out: &mut Vec<u8>, cause: &[u8], name: &Name, number: u64) -> Resu
     push_number_field(out, number)
 }
 
+/// A cause's name, the class, an object's id and one of its attributes.
+fn push_attribute_cause(
+    out: &mut Vec<u8>,
+    cause: &[u8],
+    class: &Name,
+    id: u32,
+    name: &Name,
+) -> Result<(), Memory>
+    ensures { OnOk result (out.new.items ≡ out.old.items ++ (at_number cause.now class.now id ++ name_field name.now)) }
+{
+    push_cause(out, cause, class, u64::from(id))?;
+    push_name_field(out, name)
+}
+
+fn push_unknown_attribute(
+    out: &mut Vec<u8>,
+    class: &Name,
+    id: u32,
+    name: &Text,
+) -> Result<(), Memory>
+    ensures { OnOk result (out.new.items ≡ out.old.items ++ (at_number (codes "UnknownAttribute") class.now id ++ text_field name.now)) }
+{
+    push_cause(out, b"UnknownAttribute", class, u64::from(id))?;
+    push_text_field(out, name)
+}
+
+fn push_missing_object(
+    out: &mut Vec<u8>,
+    class: &Name,
+    id: u32,
+    name: &Name,
+    target: u32,
+) -> Result<(), Memory>
+    ensures { OnOk result (out.new.items ≡ out.old.items ++ (at_number (codes "NoSuchObject") class.now id ++ (name_field name.now ++ number_field target))) }
+{
+    push_cause(out, b"NoSuchObject", class, u64::from(id))?;
+    push_name_field(out, name)?;
+    push_number_field(out, u64::from(target))
+}
+
+fn push_two_numbers(out: &mut Vec<u8>, first: u32, second: u32) -> Result<(), Memory>
+    ensures { OnOk result (out.new.items ≡ out.old.items ++ (number_field first ++ number_field second)) }
+{
+    push_number_field(out, u64::from(first))?;
+    push_number_field(out, u64::from(second))
+}
+
+fn push_repeated_key(
+    out: &mut Vec<u8>,
+    class: &Name,
+    key: usize,
+    first: u32,
+    second: u32,
+) -> Result<(), Memory>
+    ensures { OnOk result (out.new.items ≡ out.old.items ++ (at_number (codes "KeyRepeats") class.now key ++ (number_field first ++ number_field second))) }
+{
+    push_cause(out, b"KeyRepeats", class, key as u64)?;
+    push_two_numbers(out, first, second)
+}
+
 fn push_database_cause(out: &mut Vec<u8>, fault: &DbFault) -> Result<(), Memory>
     ensures { OnOk result (out.new.items ≡ out.old.items ++ database_cause fault.now) }
 {
@@ -94,27 +154,26 @@ fn push_database_cause(out: &mut Vec<u8>, fault: &DbFault) -> Result<(), Memory>
         DbFault::BadId { extent, index } => push_cause(out, b"BadId", extent, *index as u64),
         DbFault::TwiceId { extent, id } => push_cause(out, b"TwiceId", extent, u64::from(*id)),
         DbFault::UnknownAttribute { class, id, name } => {
-            push_cause(out, b"UnknownAttribute", class, u64::from(*id))?;
-            push_text_field(out, name)
+            push_unknown_attribute(out, class, *id, name)
         }
         DbFault::MissingAttribute { class, id, name } => {
-            push_cause(out, b"MissingAttribute", class, u64::from(*id))?;
-            push_name_field(out, name)
+            push_attribute_cause(out, b"MissingAttribute", class, *id, name)
         }
         DbFault::WrongType { class, id, name } => {
-            push_cause(out, b"WrongType", class, u64::from(*id))?;
-            push_name_field(out, name)
+            push_attribute_cause(out, b"WrongType", class, *id, name)
         }
-        DbFault::NoSuchObject { class, id, name, target } => {
-            push_cause(out, b"NoSuchObject", class, u64::from(*id))?;
-            push_name_field(out, name)?;
-            push_number_field(out, u64::from(*target))
-        }
-        DbFault::KeyRepeats { class, key, first, second } => {
-            push_cause(out, b"KeyRepeats", class, *key as u64)?;
-            push_number_field(out, u64::from(*first))?;
-            push_number_field(out, u64::from(*second))
-        }
+        DbFault::NoSuchObject {
+            class,
+            id,
+            name,
+            target,
+        } => push_missing_object(out, class, *id, name, *target),
+        DbFault::KeyRepeats {
+            class,
+            key,
+            first,
+            second,
+        } => push_repeated_key(out, class, *key, *first, *second),
         DbFault::Memory => push_bytes(out, b"Memory"),
     }
 }

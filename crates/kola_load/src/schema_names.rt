@@ -80,8 +80,9 @@ fn is_one_of(words: &[u8], word: &[u8]) -> bool
     words.split(|byte| *byte == b' ').any(|other| word == other)
 }
 
+/// Whether a word may be a name in a query: it is none of the words of queries, nor one of those that they leave out, in any case.
 #[tactic(auto, unfolding(crate::specs::Names::is_name))]
-fn is_name(word: &[u8]) -> bool
+pub fn is_name(word: &[u8]) -> bool
     ensures { result ≡ is_name word.now }
 {
     !is_among(

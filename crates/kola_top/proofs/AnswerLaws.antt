@@ -16,9 +16,8 @@ use Rattle.kola_load.specs.declared.fault.DbFault.TheVariants.{NotJson, Memory}
 use Rattle.kola_load.proofs.OneSchema.{one_schema, schema_or_fault, one_schema_fault}
 use Rattle.kola_top.specs.SelectForm.{SelectForm, Says}
 use Rattle.kola_top.specs.FaultLines.{layout_fault_line, schema_line, database_line}
-use Rattle.kola_top.specs.Report.{report_text}
 use Rattle.kola_top.specs.Runs.{is_written}
-use Rattle.kola_top.specs.Answer.{greatest_nesting, report_of_form, text_at, text_in, IsQuery, IsRefused, DatabaseAnswer, refused, report, QueryAnswer, not_built, built, TextsAnswer, no_schema, under, AnswerAt, RunAnswer, Answer, ActionAnswer, usage, too_long, layout, in_layout}
+use Rattle.kola_top.specs.Answer.{greatest_nesting, text_at, text_in, IsQuery, IsRefused, DatabaseAnswer, refused, report, QueryAnswer, not_built, built, TextsAnswer, no_schema, under, AnswerAt, RunAnswer, Answer, ActionAnswer, usage, too_long, layout, in_layout}
 use Rattle.kola_top.proofs.FoundLaws.{one_fault, one_layout}
 use Rattle.kola_top.proofs.FormLaws.{one_form}
 

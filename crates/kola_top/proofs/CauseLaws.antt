@@ -1,5 +1,5 @@
 -- Each refusal of a job comes only where its cause does.
-use Rattle.std.proofs.Common.{◌≡◌, ◌⊎◌, ℕ, ◌<◌, ◌≤◌, List, length, Option, Some, None, IfSome, refl, sym, subst, ◌∙◌, inl, inr}
+use Rattle.std.proofs.Common.{◌≡◌, ℕ, ◌≤◌, List, length, Option, Some, None, IfSome, refl, sym, subst, inl, inr}
 use Rattle.kola_values.specs.Databases.{Classes}
 use Rattle.kola_load.specs.SchemaAccepted.{Writes, FaultOf}
 use Rattle.kola_load.specs.declared.schema_fault.SchemaWhy.{SchemaWhy}
@@ -12,8 +12,7 @@ use Rattle.kola_top.specs.declared.status.Status.{Status}
 use Rattle.kola_top.specs.declared.status.Status.TheVariants as statuses
 use Rattle.kola_top.specs.Layout.{AreSections}
 use Rattle.kola_top.specs.SelectForm.{SelectForm}
-use Rattle.kola_top.specs.Words.{action_of}
-use Rattle.kola_top.specs.Answer.{greatest_length, greatest_nesting, text_at, text_in, IsQuery, IsRefused, DatabaseAnswer, refused, report, QueryAnswer, not_built, built, TextsAnswer, no_schema, under, AnswerAt, ActionAnswer, Answer, usage, too_long, layout, in_layout}
+use Rattle.kola_top.specs.Answer.{greatest_length, greatest_nesting, text_at, text_in, IsQuery, IsRefused, refused, report, not_built, built, TextsAnswer, no_schema, under, AnswerAt, ActionAnswer, Answer, usage, too_long, layout, in_layout}
 use Rattle.kola_top.specs.Causes.{IsCommand, IsTooLong, HasNoLayout, HasTexts, HasNoSchema, HasNoQuery, HasNoDatabase}
 use Rattle.kola_top.specs.Runs.{Tells}
 

@@ -1,7 +1,6 @@
 pub mod Layout
 pub mod Views
 pub mod Scan
-pub mod Names
 pub mod SelectForm
 pub mod SelectMeaning
 pub mod Report

@@ -1,12 +1,11 @@
 //! Reads a query of the one form that is answered off the lexemes of its text.
 
 ghost use Rattle.std.specs.Prelude.{◌≡◌, ℕ, ℤ, List, IfOk, IfSome, ◌<◌, length, option_map};
-ghost use Rattle.std.specs.Str.{str_eq_ignore_ascii_case};
 ghost use Rattle.kola_top.specs.SelectForm.{IsReading};
-ghost use Rattle.kola_top.specs.Names.{is_among, is_name};
 ghost use Rattle.kola_top.specs.FormReader.{Finds, word, sign, name, number, next_number, last_number, head, numbers, bound, form};
 ghost use Rattle.kola_top.specs.FormViews.{form_view, lexemes_view};
 
+use kola_load::is_name;
 use std::alloc::{AllocError, Global};
 
 /// What a token says.
@@ -25,33 +24,6 @@ pub struct SelectForm<'a> {
     pub variable: &'a [u8],
     pub numbers: Vec<i64>,
     pub bound: Option<i64>,
-}
-
-fn is_same_word(word: &[u8], other: &[u8]) -> bool
-    ensures { result ≡ str_eq_ignore_ascii_case word.now other.now }
-{
-    word.eq_ignore_ascii_case(other)
-}
-
-fn is_among(words: &[u8], word: &[u8]) -> bool
-    ensures { result ≡ is_among words.now word.now }
-{
-    words
-        .split(|byte| *byte == b' ')
-        .any(|other| is_same_word(word, other))
-}
-
-#[tactic(auto, unfolding(crate::specs::Names::is_name))]
-fn is_name(word: &[u8]) -> bool
-    ensures { result ≡ is_name word.now }
-{
-    !is_among(
-        b"select distinct from where as in exists for all and or not union intersect except struct set flatten true false",
-        word,
-    ) && !is_among(
-        b"element first last unique sum avg min max count bag list array order group by having define nil undefined like",
-        word,
-    )
 }
 
 /// The lexemes behind the word.

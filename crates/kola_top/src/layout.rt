@@ -175,8 +175,12 @@ mod tests {
             ("%%query\n", fault(1, LayoutWhy::UnknownSection)),
             ("%% Query\n", fault(1, LayoutWhy::UnknownSection)),
             (
-                "\n%% schema\n%% query\n",
+                "\n%% rules\n%% query\n",
                 fault(2, LayoutWhy::UnknownSection),
+            ),
+            (
+                "%% query\n%% schema\n",
+                fault(2, LayoutWhy::SectionOutOfOrder),
             ),
             (
                 "%% query\nx\n%% query\n%%\n",

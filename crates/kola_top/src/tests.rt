@@ -155,3 +155,111 @@ fn each_refusal_has_its_line(rt: HostRuntime) -> Result<(), Fail> {
     }
     Ok(())
 }
+
+const SCHEMA: &str = "%% schema
+class Person (extent Persons, key ssn, key (first, last)) {
+  attribute string ssn;
+  attribute string first;
+  attribute string last;
+  attribute set<Vehicle> cars;
+};
+class Vehicle (extent Vehicles) { attribute int year; };
+";
+
+const DATABASE: &str = "%% database
+{\"Persons\":[{\"#\":1,\"ssn\":\"a\",\"first\":\"Ann\",\"last\":\"Lee\",\"cars\":[1]},
+            {\"#\":2,\"ssn\":\"b\",\"first\":\"Bob\",\"last\":\"Lee\",\"cars\":[1,1]}],
+ \"Vehicles\":[{\"#\":1,\"year\":1990},{\"#\":2,\"year\":2001}]}
+";
+
+/// A job with a schema, a database and a query.
+fn whole_job(alloc: Global) -> Result<String, AllocError> {
+    format!(in alloc; "{SCHEMA}{DATABASE}{JOB}")
+}
+
+/// The bytes with a carriage return before each line feed.
+fn with_returns(alloc: Global, text: &str) -> Result<Vec<u8>, AllocError> {
+    let mut out = Vec::new(alloc);
+    for byte in text.as_bytes() {
+        if *byte == b'\n' {
+            out.push(b'\r')?;
+        }
+        out.push(*byte)?;
+    }
+    Ok(out)
+}
+
+#[test]
+fn line_ends_change_no_answer(rt: HostRuntime) -> Result<(), Fail> {
+    let alloc = rt.alloc();
+    let job = whole_job(alloc)?;
+    let (status, sink) = answered(alloc, "run", with_returns(alloc, &job)?)?;
+    assert_eq!(rt; status, Status::Ok);
+    assert_eq!(rt; sink.bytes(), REPORT.as_bytes());
+    Ok(())
+}
+
+/// The status of the first bytes of a job.
+fn status_of(alloc: Global, job: &str, bytes: usize) -> Result<Status, AllocError> {
+    let mut front = Vec::new(alloc);
+    for byte in job.as_bytes().iter().take(bytes) {
+        front.push(*byte)?;
+    }
+    let (status, _) = answered(alloc, "run", front)?;
+    Ok(status)
+}
+
+#[test]
+fn each_front_of_a_job_is_answered(rt: HostRuntime) -> Result<(), Fail> {
+    let job = whole_job(rt.alloc())?;
+    let bytes = job.len();
+    for left in 0..bytes {
+        let status = status_of(rt.alloc(), &job, bytes - left)?;
+        // Without the 11 or 12 bytes of its condition it is a query of the form too; its header is whole up to 56 bytes before the end.
+        let due = match left {
+            0 | 11 | 12 => Status::Ok,
+            1..=56 => Status::Query,
+            _ => Status::Layout,
+        };
+        assert_eq!(rt; status, due);
+    }
+    Ok(())
+}
+
+#[test]
+fn faults_of_schemas_and_databases_have_their_lines(rt: HostRuntime) -> Result<(), Fail> {
+    let alloc = rt.alloc();
+    for (sections, due, line) in [
+        (
+            "%% schema\nclass Car (extent Cars) { attribute wheel w; };\n",
+            Status::Schema,
+            "fault: schema at 36: UnknownClass\n",
+        ),
+        (
+            "%% schema\nclass Car (extent Cars)\n",
+            Status::Schema,
+            "fault: schema at 24: Unexpected\n",
+        ),
+        (
+            "%% database\n[]\n",
+            Status::Database,
+            "fault: database: NotObject\n",
+        ),
+        (
+            "%% database\n{\"C\\n\":[]}\n",
+            Status::Database,
+            "fault: database: UnknownExtent \"C\\n\"\n",
+        ),
+        (
+            "%% schema\nclass Car (extent Cars, key w) { attribute int w; };\n%% database\n{\"Cars\":[{\"#\":7,\"w\":1},{\"#\":3,\"w\":1}]}\n",
+            Status::Database,
+            "fault: database: KeyRepeats Car 1 7 3\n",
+        ),
+    ] {
+        let job = format!(in alloc; "{sections}{JOB}")?;
+        let (status, sink) = answered(alloc, "run", job.as_bytes().to_vec(alloc)?)?;
+        assert_eq!(rt; status, due);
+        assert_eq!(rt; sink.bytes(), line.as_bytes());
+    }
+    Ok(())
+}

@@ -163,17 +163,27 @@ fn typing(alloc: Global, n: u32) -> Result<usize, Memory> {
     Ok(typed)
 }
 
+/// A function of at most n nodes as text.
+fn composed_text(alloc: Global, n: u32) -> Result<Vec<u8>, Memory> {
+    let term = Term::F(composed(alloc, n)?);
+    print_term(alloc, &term)
+}
+
+/// A text of a term, read and printed again; empty where it is none.
+fn printed_again(alloc: Global, text: &[u8]) -> Result<Vec<u8>, Memory> {
+    let vars = MetaCtx::new(alloc);
+    match read_term(alloc, text, &vars) {
+        Ok(term) => print_term(alloc, &term),
+        Err(TextFault::At { .. }) => Ok(Vec::new(alloc)),
+        Err(TextFault::Memory) => Err(AllocError),
+    }
+}
+
 /// The bytes of a function of at most n nodes as text, which is read and printed again twenty times.
 fn text_of_term(alloc: Global, n: u32) -> Result<usize, Memory> {
-    let term = Term::F(composed(alloc, n)?);
-    let vars = MetaCtx::new(alloc);
-    let mut text = print_term(alloc, &term)?;
+    let mut text = composed_text(alloc, n)?;
     for _ in 0..20 {
-        text = match read_term(alloc, text.as_slice(), &vars) {
-            Ok(read) => print_term(alloc, &read)?,
-            Err(TextFault::At { .. }) => return Ok(0),
-            Err(TextFault::Memory) => return Err(AllocError),
-        };
+        text = printed_again(alloc, &text)?;
     }
     Ok(text.len())
 }

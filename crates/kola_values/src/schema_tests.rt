@@ -82,6 +82,28 @@ fn classes_and_extents(rt: HostRuntime) -> Result<(), Fail> {
     Ok(())
 }
 
+// Whether the class at the place of the sample has the name.
+fn stands_at(alloc: Global, class: &str, n: usize) -> Result<bool, Memory> {
+    match schema(alloc)? {
+        Some(schema) => Ok(is_named(schema.class_at(n).map(|class| &class.name), class)),
+        None => Ok(false),
+    }
+}
+
+#[test]
+fn places_of_classes(rt: HostRuntime) -> Result<(), Fail> {
+    for (class, n, wanted) in [
+        ("Person", 0, true),
+        ("Vehicle", 1, true),
+        ("Vehicle", 0, false),
+        ("Vehicle", 2, false),
+    ] {
+        let found = stands_at(rt.alloc(), class, n)?;
+        assert_eq!(rt; found, wanted);
+    }
+    Ok(())
+}
+
 #[test]
 fn attributes_of_classes(rt: HostRuntime) -> Result<(), Fail> {
     for (class, a, wanted) in [

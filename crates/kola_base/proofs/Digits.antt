@@ -52,7 +52,7 @@ minus_byte b e = eqb-true b 45 (sym (or-false (nat_eq b 45)) ∙ found is_minus 
 
 -- ---- digits
 
-abbrev IsDigits : List ℕ → Type 0
+abbrev pub IsDigits : List ℕ → Type 0
 IsDigits ds = list_all (goes_on sorts.Number) (map class ds) ≡ true
 
 digits_test : IsDigitsTest IsDigits
@@ -62,7 +62,7 @@ digits_test = record {
   more = λ c cs h e. and_from (goes_on sorts.Number (class c)) (list_all (goes_on sorts.Number) (map class cs)) (byte_digit c h) e;
 }
 
-own : IsNumeralModel IsDigits (decimal 0)
+pub own : IsNumeralModel IsDigits (decimal 0)
 own = numerals_by_fold IsDigits digits_test decimal (record { empty = λ n. refl; more = λ n c cs h. refl })
 
 ascii_digits : (ds : List ℕ) → IsDigits ds → IsAscii ds
@@ -90,7 +90,7 @@ written : (bs : List ℕ) → piece sorts.Number bs ≡ true → IsWritten bs
 written [] e = absurd cc
 written (b ∷ bs) e = written_at (class b) b bs refl e
 
-digits_value : (bs : List ℕ) → IsDigits bs → number_value bs ≡ pos (decimal 0 bs)
+pub digits_value : (bs : List ℕ) → IsDigits bs → number_value bs ≡ pos (decimal 0 bs)
 digits_value [] h = refl
 digits_value (b ∷ bs) h =
     let k = (digits_test.parts b bs h).0 in

@@ -12,3 +12,6 @@ pub mod Escapes
 pub mod Writes
 pub mod Words
 pub mod PlacedLaws
+pub mod Printed
+pub mod Alone
+pub mod NumbersBack

@@ -93,7 +93,9 @@ pub struct CountSink;
 
 impl CountSink {
     /// The sink.
-    pub fn new() -> CountSink {
+    pub fn new() -> CountSink
+        ensures { result ≡ record {} }
+    {
         CountSink
     }
 }

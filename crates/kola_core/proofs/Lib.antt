@@ -1,2 +1,5 @@
 pub mod Lists
 pub mod Compare
+pub mod NameLists
+pub mod Integers
+pub mod NameListExamples

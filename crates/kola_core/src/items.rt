@@ -48,11 +48,6 @@ impl<T> Items<T> {
         entries
     }
 
-    /// The allocator that the list keeps.
-    pub fn allocator(&self) -> Global {
-        *self.entries.allocator()
-    }
-
     /// The entries in their order.
     pub fn as_slice(&self) -> &[T]
         ensures { result.now ≡ self.now }

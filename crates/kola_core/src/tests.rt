@@ -1,5 +1,5 @@
 //! Each call that takes memory, with ample memory.
-use crate::{Items, Name, Names, Path, Text};
+use crate::{Items, Name, NameTable, Names, Path, Text};
 use std::test::Fail;
 
 #[test]
@@ -17,5 +17,23 @@ fn names_texts_and_lists_take_memory(rt: HostRuntime) -> Result<(), Fail> {
     let mut path: Path = Items::new(rt.alloc());
     path.push(2)?;
     assert_eq!(rt; path.prefixed(1)?.copy()?.as_slice(), [1, 2].as_slice());
+    Ok(())
+}
+
+#[test]
+fn a_table_keeps_each_name_once(rt: HostRuntime) -> Result<(), Fail> {
+    let mut table = NameTable::new(rt.alloc());
+    for (name, new) in [("name", true), ("age", true), ("name", false), ("", true)] {
+        assert_eq!(rt; table.add(name)?, new);
+    }
+    for (name, place) in [
+        ("name", Some(0)),
+        ("age", Some(1)),
+        ("", Some(2)),
+        ("ag", None),
+    ] {
+        assert_eq!(rt; table.place(name), place);
+        assert_eq!(rt; table.holds(name), place.is_some());
+    }
     Ok(())
 }

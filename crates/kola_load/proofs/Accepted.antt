@@ -13,7 +13,8 @@ use Rattle.kola_values.specs.Types.{TypeTree, TInt, TStr, TBool, TUnit, TClass, 
 use Rattle.kola_values.specs.Order.{same}
 use Rattle.kola_values.specs.Sets.{Each, any, has, canon, set_of}
 use Rattle.kola_values.specs.Databases.{Class, Object, Classes, Objects, look_up, value_or_unit}
-use Rattle.kola_values.specs.Schemas.{is_listed, are_distinct, names_of, class_names, extent_names, class_named, is_class, is_schema}
+use Rattle.kola_core.specs.NameLists.{is_listed}
+use Rattle.kola_values.specs.Schemas.{are_distinct, names_of, class_names, extent_names, class_named, is_class, is_schema}
 use Rattle.kola_values.specs.Meets.{Meets, object_values}
 use Rattle.kola_values.specs.MeetsTests.{typed_by, IsHeld, no_two, same_object, is_value_of, are_typed, are_whole, fits_class, agree_at, clash, all_fit, keys_are_met, meets}
 use Rattle.kola_values.specs.MeetsTests as tests

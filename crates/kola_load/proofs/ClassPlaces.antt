@@ -3,7 +3,8 @@ use Rattle.std.proofs.Common.{◌≡◌, ℕ, ◌+◌, ◌<◌, true, false, con
 use Rattle.std.specs.Str.{bytes_eq}
 use Rattle.std.proofs.lemmas.List.{take-map, take-append-drop, drop_more}
 use Rattle.kola_values.specs.Databases.{Class, Classes}
-use Rattle.kola_values.specs.Schemas.{is_listed, are_distinct, class_names, class_named}
+use Rattle.kola_core.specs.NameLists.{is_listed}
+use Rattle.kola_values.specs.Schemas.{are_distinct, class_names, class_named}
 use Rattle.kola_values.proofs.NameTests.{both_false}
 use Rattle.kola_values.proofs.Places.{fresh}
 use Rattle.kola_values.proofs.SameTypes.{name_itself}

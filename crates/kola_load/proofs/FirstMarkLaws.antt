@@ -2,12 +2,12 @@
 use Rattle.std.proofs.Common.{◌≡◌, ◌⊎◌, inl, inr, ◌≤◌, ◌+◌, ◌*◌, ℕ, nat_lt, nat_le, nat_eq, ◌&&◌, ◌||◌, not, cond, Bool, true, false, List, [], ◌∷◌, ◌++◌, Option, Some, None, fold, refl, sym, ap, subst, ◌∙◌, arith}
 use Rattle.std.specs.Str.{bytes_eq}
 use Rattle.std.proofs.lemmas.Bool.{ltb-true, ltb-false, eqb-true, eqb-false, leb-true, leb-false}
-use Rattle.kola_values.specs.Schemas.{is_listed}
+use Rattle.kola_core.specs.NameLists.{is_listed, with_name}
 use Rattle.kola_values.proofs.SameTypes.{name_equal}
 use Rattle.kola_load.specs.Names.{is_extent_name}
 use Rattle.kola_load.specs.SchemaTree.{Named, TypeAt, AInt, AStr, ABool, ASet, AClass, AttributeAt, ClassAt}
 use Rattle.kola_load.specs.SchemaFaults.{mark, Among, starts_with_capital, names, class_names, extents, attributes, Unless, IsNotAllowed, IsTwice, IsUnknown, IsUnknownKey, StandsInClass, Stands, rank, Before, IsFirst}
-use Rattle.kola_load.specs.FirstMarks.{goes_before, earlier, unless, first_of, not_allowed, with_name, twice_from, twice, unknown_class, unknown_key, unknown_keys, unknown_types, first_in_class, first_mark}
+use Rattle.kola_load.specs.FirstMarks.{goes_before, earlier, unless, first_of, not_allowed, twice_from, twice, unknown_class, unknown_key, unknown_keys, unknown_types, first_in_class, first_mark}
 use Rattle.kola_load.specs.declared.schema_fault.Mark.{Mark}
 use Rattle.kola_load.specs.declared.schema_fault.NameWhy.{NameWhy}
 use Rattle.kola_load.specs.declared.schema_fault.NameWhy.TheVariants.{NotAllowed, TwiceDefined, UnknownClass, UnknownKeyAttribute}

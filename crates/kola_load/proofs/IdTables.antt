@@ -10,7 +10,8 @@ use Rattle.std.specs.declared.alloc.Global.{Global}
 use Rattle.std.proofs.lemmas.Map.Text.{btree_map_updates_text}
 use Rattle.serde_json.specs.Data.{Data}
 use Rattle.kola_values.specs.Databases.{Class, Classes}
-use Rattle.kola_values.specs.Schemas.{class_named, class_names, is_listed}
+use Rattle.kola_core.specs.NameLists.{is_listed}
+use Rattle.kola_values.specs.Schemas.{class_named, class_names}
 use Rattle.std.proofs.lemmas.List.{take_more}
 use Rattle.kola_values.specs.Schemas.{are_distinct}
 use Rattle.kola_values.proofs.Anys.{bool_same}

@@ -10,7 +10,8 @@ use Rattle.kola_values.specs.Schemas.{names_of}
 use Rattle.kola_values.specs.Sets.{Each}
 use Rattle.kola_values.specs.Views.{type_entry}
 use Rattle.kola_values.specs.declared.ty.Ty.{Ty}
-use Rattle.kola_values.proofs.Places.{place_seen, entry_at_place}
+use Rattle.kola_core.proofs.NameLists.{place_seen}
+use Rattle.kola_values.proofs.Places.{entry_at_place}
 use Rattle.kola_load.specs.KeyViews.{value_at_place, AreOfClass, AreOfClasses}
 use Rattle.kola_load.specs.Written.{attribute_in, object_in, objects_in, extent_of}
 

@@ -13,7 +13,6 @@ pub mod Accepted
 pub mod Walks
 pub mod Answering
 mod LoadingExamples
-pub mod ListedLaws
 pub mod SchemaSymbols
 pub mod SchemaLaws
 pub mod SchemaWhole

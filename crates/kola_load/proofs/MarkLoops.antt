@@ -1,7 +1,7 @@
 -- Steps of loops over lists that are seen through a view: the first fault so far, the names so far, the copies so far.
-use Rattle.std.proofs.Common.{◌≡◌, ◌<◌, ◌+◌, ℕ, Bool, true, false, not, cond, if◌then◌else◌, List, [], ◌∷◌, ◌++◌, length, get_or, map, drop, take, Option, fold, refl, sym, ap, subst, ◌∙◌, append_assoc}
+use Rattle.std.proofs.Common.{◌≡◌, ◌<◌, ◌+◌, ℕ, not, List, [], ◌∷◌, ◌++◌, length, get_or, map, drop, take, Option, fold, refl, sym, ap, subst, ◌∙◌, append_assoc}
 use Rattle.std.proofs.lemmas.List.{drop_more, take_more, get_or-map, length-map, append-nil, map-append}
-use Rattle.kola_values.specs.Schemas.{is_listed}
+use Rattle.kola_core.specs.NameLists.{is_listed, with_name}
 use Rattle.kola_load.specs.declared.schema_fault.Mark.{Mark}
 use Rattle.kola_load.specs.declared.schema_fault.NameWhy.{NameWhy}
 use Rattle.kola_load.specs.declared.schema_fault.NameWhy.TheVariants.{TwiceDefined, UnknownClass, UnknownKeyAttribute}
@@ -9,7 +9,7 @@ use Rattle.kola_load.specs.declared.schema_tree.AttributeAt as tree
 use Rattle.kola_load.specs.declared.schema_tree.ClassAt as class
 use Rattle.kola_load.specs.SchemaTree.{Named, TypeAt, AInt, AStr, ABool, ASet, AClass, AttributeAt, ClassAt}
 use Rattle.kola_load.specs.SchemaFaults.{names, class_names, extents, attributes}
-use Rattle.kola_load.specs.FirstMarks.{earlier, unless, first_of, not_allowed, with_name, names_from, twice_from, twice, unknown_class, unknown_keys, unknown_types, first_in_class, first_mark}
+use Rattle.kola_load.specs.FirstMarks.{earlier, unless, first_of, not_allowed, names_from, twice_from, twice, unknown_class, unknown_keys, unknown_types, first_in_class, first_mark}
 use Rattle.kola_load.specs.SchemaViews.{named_view, attribute_view, class_view}
 use Rattle.kola_load.proofs.FirstMarkLaws.{Agree, added}
 
@@ -93,11 +93,6 @@ names_seen (x ∷ xs) = ap (λ (z : List Named). named_view x.name ∷ z) (names
 pub extents_seen : (xs : List class.ClassAt) → map named_view (map (λ (c : class.ClassAt). c.extent) xs) ≡ extents (map class_view xs)
 extents_seen [] = refl
 extents_seen (x ∷ xs) = ap (λ (z : List Named). named_view x.extent ∷ z) (extents_seen xs)
-
--- a word that a table has adds nothing, another one stands at the end
-pub word_added : {X : Type 0} (f : X → List ℕ) (keys : List X) (x : X) (b : Bool) → map f (if b then keys else keys ++ x ∷ []) ≡ cond b (map f keys) (map f keys ++ f x ∷ [])
-word_added f keys x true = refl
-word_added f keys x false = map-append f keys (x ∷ [])
 
 -- one more entry is copied
 pub copied_step : {X A B Z : Type 0} (seen : Z → B) (f : A → B) (view : X → A) (xs : List X) (i : ℕ) (d : X) (old new : List Z) (z : Z) → i < length xs → map seen old ≡ take i (map f (map view xs)) → seen z ≡ f (view (get_or xs i d)) → new ≡ old ++ z ∷ []

@@ -9,12 +9,12 @@ use Rattle.kola_parse.proofs.GoodReaders.{done_good, next_good, made_good, pair_
 use Rattle.kola_parse.proofs.KindLaws.{Heads, led_good, Inside, bare, first, both, deeper_good}
 use Rattle.kola_load.specs.declared.schema_alphabet.Sign.TheVariants.{Open, Close, LeftBrace, RightBrace, Less, Greater, Comma, Semicolon}
 use Rattle.kola_load.specs.declared.schema_alphabet.Word.TheVariants as w
-use Rattle.kola_load.specs.Listed.{Listed}
+use Rattle.kola_parse.specs.Listed.{Listed}
 use Rattle.kola_load.specs.SchemaTree.{Named, TypeAt, AInt, AStr, ABool, ASet, AClass, AttributeAt, ClassAt}
 use Rattle.kola_load.specs.SchemaAlphabet.{Kind, KSign, KWord, KOther, kind, word_of, name_of}
 use Rattle.kola_load.specs.SchemaGrammar.{◌▸◌, IsSign, IsWord, NameText, leaf_of, TypeText, KeyText, MayComma, KeysText, AttributesText, BodyText}
 use Rattle.kola_load.specs.SchemaReaders.{Reader, name_move, name_at, leaf_move, type_move, type_step, below, type_at, next_name_move, next_name, names_at, key_move, key_at, next_key_move, next_key, keys_at, attribute_of, attribute_at, next_attribute_move, next_attribute, attributes_at, class_of, body_at}
-use Rattle.kola_load.proofs.ListedLaws.{ItemOr, Others, IsTaken, IsList, others_good, listed_good}
+use Rattle.kola_parse.proofs.ListedLaws.{ItemOr, Others, IsTaken, IsList, others_good, listed_good}
 use Rattle.kola_load.proofs.SchemaSymbols.{by_word, by_name, sign_token, word_token, name_token, sign_is, word_is, ahead_sign, ahead_word, behind_sign}
 
 -- ---- names

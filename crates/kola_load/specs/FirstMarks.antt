@@ -1,6 +1,6 @@
 -- The first of the faults of a schema, computed.
-use Rattle.std.specs.Prelude.{ℕ, nat_lt, nat_le, nat_eq, ◌&&◌, ◌||◌, not, cond, Bool, List, [], ◌∷◌, ◌++◌, Option, Some, None, fold}
-use Rattle.kola_values.specs.Schemas.{is_listed}
+use Rattle.std.specs.Prelude.{ℕ, nat_lt, nat_le, nat_eq, ◌&&◌, ◌||◌, not, cond, Bool, List, [], ◌∷◌, Option, Some, None, fold}
+use Rattle.kola_core.specs.NameLists.{is_listed, with_name}
 use Rattle.kola_load.specs.Names.{is_extent_name}
 use Rattle.kola_load.specs.SchemaTree.{Named, TypeAt, ASet, AClass, AttributeAt, ClassAt}
 use Rattle.kola_load.specs.SchemaFaults.{mark, starts_with_capital, names, class_names, extents, attributes, rank}
@@ -27,9 +27,6 @@ abbrev pub not_allowed : ClassAt → Option Mark
 not_allowed c = earlier (unless (starts_with_capital c.name.name) NotAllowed c.name) (unless (is_extent_name c.extent.name) NotAllowed c.extent)
 
 -- the names that are seen, each once
-abbrev pub with_name : List (List ℕ) → List ℕ → List (List ℕ)
-with_name seen n = cond (is_listed n seen) seen (seen ++ n ∷ [])
-
 abbrev pub names_from : List (List ℕ) → List Named → List (List ℕ)
 names_from seen [] = seen
 names_from seen (n ∷ ns) = names_from (with_name seen n.name) ns

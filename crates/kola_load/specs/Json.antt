@@ -5,7 +5,7 @@ use Rattle.std.specs.Ordering.{is_lt}
 use Rattle.serde_json.specs.Data.{Data, Items, no_items, item, Members, no_members, member}
 use Rattle.serde_json.specs.Find.{get, as_array, as_object, as_number, as_i64}
 use Rattle.kola_values.specs.Order.{name_cmp}
-use Rattle.kola_values.specs.Schemas.{is_listed}
+use Rattle.kola_core.specs.NameLists.{is_listed}
 
 abbrev pub is_object : Data → Bool
 is_object d = is_some (as_object d)

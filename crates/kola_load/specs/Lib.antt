@@ -8,7 +8,6 @@ pub mod Labels
 pub mod KeyViews
 pub mod SchemaTree
 pub mod SchemaAlphabet
-pub mod Listed
 pub mod SchemaGrammar
 pub mod SchemaReaders
 pub mod SchemaViews

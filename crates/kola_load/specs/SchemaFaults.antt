@@ -1,6 +1,6 @@
 -- The faults of a schema beyond its grammar: which cause stands at which place, and which fault is the first.
 use Rattle.std.specs.Prelude.{◌≡◌, ◌⊎◌, ◌<◌, ◌≤◌, ◌&&◌, nat_le, ℕ, Bool, true, false, List, [], ◌∷◌, ◌++◌, map}
-use Rattle.kola_values.specs.Schemas.{is_listed}
+use Rattle.kola_core.specs.NameLists.{is_listed}
 use Rattle.kola_load.specs.Names.{is_extent_name}
 use Rattle.kola_load.specs.SchemaTree.{Named, TypeAt, ASet, AClass, AttributeAt, ClassAt}
 use Rattle.kola_load.specs.declared.schema_fault.Mark.{Mark}

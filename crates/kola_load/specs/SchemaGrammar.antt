@@ -3,7 +3,7 @@ use Rattle.std.specs.Prelude.{◌≡◌, ◌⊎◌, ℕ, zero, suc, List, [], �
 use Rattle.kola_base.specs.Placed.{Placed}
 use Rattle.kola_parse.specs.Kinds.{leads}
 use Rattle.kola_parse.specs.Texts.{◌·◌, ends, none}
-use Rattle.kola_load.specs.Listed.{Listed}
+use Rattle.kola_parse.specs.Listed.{Listed}
 use Rattle.kola_load.specs.SchemaTree.{Named, TypeAt, AInt, AStr, ABool, ASet, AClass, AttributeAt, ClassAt}
 use Rattle.kola_load.specs.SchemaAlphabet.{Kind, KWord, KSign, kind, word_of, name_of}
 use Rattle.kola_load.specs.declared.schema_alphabet.Sign.{Sign}

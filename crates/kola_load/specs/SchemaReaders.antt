@@ -4,7 +4,7 @@ use Rattle.std.specs.Str.{bytes_eq}
 use Rattle.kola_base.specs.Placed.{Placed}
 use Rattle.kola_parse.specs.Reader.{Answer, then, Move, Stray, Goes, eat, may, stop, done, pair, made, many}
 use Rattle.kola_parse.specs.Kinds.{ahead, behind, deeper}
-use Rattle.kola_load.specs.Listed.{listed}
+use Rattle.kola_parse.specs.Listed.{listed}
 use Rattle.kola_load.specs.SchemaTree.{Named, TypeAt, ASet, AttributeAt, ClassAt}
 use Rattle.kola_load.specs.SchemaAlphabet.{sign_spelling, word_spelling, Kind, KSign, KWord, kind}
 use Rattle.kola_load.specs.SchemaGrammar.{leaf_of}

@@ -20,7 +20,6 @@ mod schema_read;
 mod schema_syntax;
 mod schema_tree;
 mod values;
-mod word_table;
 
 pub use db::read_db;
 pub use db_laws::a_text_has_one_answer;

@@ -1,6 +1,6 @@
 //! The names of members that are not known.
 ghost use Rattle.std.specs.Prelude.{◌≡◌, ℕ, List, not, filter, IfOk};
-ghost use Rattle.kola_values.specs.Schemas.{is_listed};
+ghost use Rattle.kola_core.specs.NameLists.{is_listed};
 ghost use Rattle.serde_json.specs.View.{members_view};
 ghost use Rattle.kola_load.specs.Json.{least, names_of_members};
 

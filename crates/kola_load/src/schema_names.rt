@@ -9,8 +9,7 @@ ghost use Rattle.kola_load.specs.SchemaViews.{named_view, type_view, key_view, a
 
 use crate::schema_fault::{Mark, NameWhy};
 use crate::schema_tree::{AttributeAt, ClassAt, Named, TypeAt};
-use crate::word_table::WordTable;
-use kola_core::Memory;
+use kola_core::{Memory, NameTable};
 use std::alloc::Global;
 
 fn rank(why: NameWhy) -> u8
@@ -123,21 +122,20 @@ fn not_allowed(class: &ClassAt<'_>) -> Option<Mark>
 }
 
 /// The table of the names, and the first one that is named so before.
-fn table_of(alloc: Global, names: &[Named<'_>]) -> Result<(WordTable, Option<Mark>), Memory>
+fn table_of(alloc: Global, names: &[Named<'_>]) -> Result<(NameTable, Option<Mark>), Memory>
     ensures table { IfOk result (λ x. x.0 ≡ names_from [] (map named_view names.now)) }
     ensures twice { IfOk result (λ x. x.1 ≡ twice (map named_view names.now)) }
 {
-    let mut seen = WordTable::new(alloc);
+    let mut seen = NameTable::new(alloc);
     let mut first = None;
     for name in names {
-        let known = seen.holds(name.name);
-        first = earlier(first, unless(!known, NameWhy::TwiceDefined, name));
-        seen.add(alloc, name.name)?;
+        let new = seen.add(name.name)?;
+        first = earlier(first, unless(new, NameWhy::TwiceDefined, name));
     }
     Ok((seen, first))
 }
 
-fn unknown_class(known: &WordTable, ty: &TypeAt<'_>) -> Option<Mark>
+fn unknown_class(known: &NameTable, ty: &TypeAt<'_>) -> Option<Mark>
     ensures { result ≡ unknown_class known.now (type_view ty.now) }
 {
     match ty {
@@ -147,7 +145,7 @@ fn unknown_class(known: &WordTable, ty: &TypeAt<'_>) -> Option<Mark>
     }
 }
 
-fn unknown_types(known: &WordTable, attributes: &[AttributeAt<'_>]) -> Option<Mark>
+fn unknown_types(known: &NameTable, attributes: &[AttributeAt<'_>]) -> Option<Mark>
     ensures { result ≡ unknown_types known.now (map attribute_view attributes.now) }
 {
     let mut first = None;
@@ -157,7 +155,7 @@ fn unknown_types(known: &WordTable, attributes: &[AttributeAt<'_>]) -> Option<Ma
     first
 }
 
-fn unknown_key(known: &WordTable, key: &[Named<'_>]) -> Option<Mark>
+fn unknown_key(known: &NameTable, key: &[Named<'_>]) -> Option<Mark>
     ensures { result ≡ unknown_key known.now (map named_view key.now) }
 {
     let mut first = None;
@@ -170,7 +168,7 @@ fn unknown_key(known: &WordTable, key: &[Named<'_>]) -> Option<Mark>
     first
 }
 
-fn unknown_keys(known: &WordTable, keys: &[Vec<Named<'_>>]) -> Option<Mark>
+fn unknown_keys(known: &NameTable, keys: &[Vec<Named<'_>>]) -> Option<Mark>
     ensures { result ≡ unknown_keys known.now (map key_view keys.now) }
 {
     let mut first = None;
@@ -212,7 +210,7 @@ fn extents<'a>(alloc: Global, classes: &[ClassAt<'a>]) -> Result<Vec<Named<'a>>,
 
 fn first_in_class(
     alloc: Global,
-    known: &WordTable,
+    known: &NameTable,
     class: &ClassAt<'_>,
 ) -> Result<Option<Mark>, Memory>
     ensures { IfOk result (λ m. m ≡ first_in_class known.now (class_view class.now)) }
@@ -226,7 +224,7 @@ fn first_in_class(
 
 fn first_in_classes(
     alloc: Global,
-    known: &WordTable,
+    known: &NameTable,
     classes: &[ClassAt<'_>],
 ) -> Result<Option<Mark>, Memory>
     ensures { IfOk result (λ m. m ≡ first_of (first_in_class known.now) (map class_view classes.now)) }

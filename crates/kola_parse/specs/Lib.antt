@@ -5,3 +5,4 @@ pub mod Reading
 pub mod Moves
 pub mod Given
 pub mod Kinds
+pub mod Listed

@@ -1,6 +1,6 @@
 -- Attributes, constants and extents have their types.
-use Rattle.std.proofs.Common.{◌≡◌, ℕ, ℤ, pos, negsuc, Bool, true, false, cond, ◌&&◌, Option, Some, None, refl, sym, subst, option_map, true≢false, List, [], ◌∷◌, map, filter, int_le, ◌≤ℤ◌, arith, ◌||◌}
-use Rattle.std.proofs.lemmas.Int.{ints}
+use Rattle.std.proofs.Common.{◌≡◌, ℕ, Bool, true, false, cond, ◌&&◌, Option, Some, None, refl, sym, subst, option_map, true≢false, List, [], ◌∷◌, map, filter, ◌||◌}
+use Rattle.kola_core.proofs.Integers.{is_in_range}
 use Rattle.kola_values.specs.Values.{ValueTree, VInt, VBool, VStr, VObj}
 use Rattle.kola_values.specs.Types.{TypeTree, TInt, TBool, TStr, TClass, TSet}
 use Rattle.std.specs.Str.{bytes_eq}
@@ -54,11 +54,8 @@ attr_typed S d m a c t _ k h = absurd h
 
 -- ---- constants
 
-int_le-true : (x y : ℤ) → int_le x y ≡ true → x ≤ℤ y
-int_le-true x y h = grind (arith, ints)
-
 pub literal_typed : (d : Objects) (t : TypeTree) (v : ValueTree) → is_literal_of t v ≡ true → HasType d v t
-literal_typed d TInt (VInt z) h = let p = and_true (int_le (negsuc 9223372036854775807) z) (int_le z (pos 9223372036854775807)) h in (int_le-true _ _ p.0, int_le-true _ _ p.1)
+literal_typed d TInt (VInt z) h = is_in_range z h
 literal_typed d TBool (VBool b) h = tt
 literal_typed d TStr (VStr s) h = tt
 literal_typed d _ _ h = absurd (cc)

@@ -2,7 +2,7 @@ pub mod Sample
 mod Examples
 mod CountExamples
 mod LiteralLoop
-mod SetConstants
+pub mod SetConstants
 mod Sizes
 pub mod Inversions
 pub mod Introductions

@@ -6,7 +6,7 @@ use Rattle.kola_values.specs.Types.{TypeTree, TSet}
 use Rattle.kola_values.specs.Sets.{Rising}
 use Rattle.kola_term.specs.Literals.{literal_type, each_literal, rises_from, set_type_of, set_type}
 
-rising_from : (v : ValueTree) (vs : List ValueTree) → Rising (v ∷ vs) → rises_from v vs ≡ true
+pub rising_from : (v : ValueTree) (vs : List ValueTree) → Rising (v ∷ vs) → rises_from v vs ≡ true
 rising_from v [] r = refl
 rising_from v (w ∷ ws) r = ap (λ o. is_lt o && rises_from w ws) r.0 ∙ rising_from w ws r.1
 

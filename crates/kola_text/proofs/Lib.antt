@@ -1,8 +1,5 @@
 mod Examples
 pub mod StringsKept
-mod Printed
-mod Alone
-mod NumbersBack
 mod StringsBack
 mod Spelt
 mod ConstSpelt

@@ -13,7 +13,8 @@ use Rattle.kola_values.specs.Types.{TypeTree, TSet, of_type_fields}
 use Rattle.kola_values.specs.Order.{same}
 use Rattle.kola_values.specs.Sets.{any}
 use Rattle.kola_values.specs.Databases.{look_up}
-use Rattle.kola_values.specs.Schemas.{is_listed, are_distinct, names_of}
+use Rattle.kola_core.specs.NameLists.{is_listed}
+use Rattle.kola_values.specs.Schemas.{are_distinct, names_of}
 use Rattle.kola_values.specs.Meets.{object_values}
 use Rattle.kola_values.specs.MeetsTests.{typed_by, fields_typed_by, is_there, no_two}
 use Rattle.kola_values.specs.Views.{type_tree, type_entry, value_tree, value_entry}

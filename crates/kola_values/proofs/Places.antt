@@ -1,5 +1,5 @@
 -- Names found at their places.
-use Rattle.std.proofs.Common.{◌≡◌, ℕ, suc, ◌+◌, ◌<◌, Bool, true, false, not, cond, ◌||◌, List, [], ◌∷◌, ◌++◌, Option, Some, None, length, get_or, map, take, drop, position, slice_get, option_map, option_and_then, nat_lt, refl, sym, ap, ◌∙◌, arith}
+use Rattle.std.proofs.Common.{◌≡◌, ℕ, ◌+◌, ◌<◌, Bool, true, false, not, cond, ◌||◌, List, [], ◌∷◌, ◌++◌, Option, Some, None, length, get_or, map, take, drop, position, slice_get, option_map, option_and_then, nat_lt, refl, sym, ap, ◌∙◌, arith}
 use Rattle.std.specs.List.{find, position_or_len}
 use Rattle.std.specs.Str.{bytes_eq}
 use Rattle.std.proofs.lemmas.Option.{slice_get_past}
@@ -7,25 +7,16 @@ use Rattle.std.proofs.lemmas.Bool.Decides.{nat_tests}
 use Rattle.std.proofs.lemmas.List.{drop_more, take-append-drop}
 use Rattle.std.proofs.lemmas.List.Folds.{find_at}
 use Rattle.kola_core.proofs.Lists.{seen, longer}
+use Rattle.kola_core.proofs.NameLists.{place_seen}
 use Rattle.kola_values.specs.Databases.{Class, Classes, look_up, extent_class}
-use Rattle.kola_values.specs.Schemas.{is_listed, are_distinct, names_of, class_names, extent_names, class_named}
+use Rattle.kola_core.specs.NameLists.{is_listed}
+use Rattle.kola_values.specs.Schemas.{are_distinct, names_of, class_names, extent_names, class_named}
 use Rattle.kola_values.proofs.SameTypes.{both_true, name_equal, name_itself}
 use Rattle.kola_values.proofs.Anys.{bool_same}
 use Rattle.kola_values.proofs.NameTests.{not_true, both_false}
 use Rattle.kola_values.proofs.Schemas.{choose}
 
 module _ {X : Type 0} (f : X → List ℕ) (n : List ℕ) where
-  place_or_len_seen : (xs : List X) → position_or_len (bytes_eq n) (map f xs) ≡ position_or_len (λ x. bytes_eq n (f x)) xs
-  place_or_len_seen [] = refl
-  place_or_len_seen (x ∷ xs) = ap (λ i. cond (not (bytes_eq n (f x))) (1 + i) 0) (place_or_len_seen xs)
-
-  length_names : (xs : List X) → length (map f xs) ≡ length xs
-  length_names [] = refl
-  length_names (x ∷ xs) = ap suc (length_names xs)
-
-  pub place_seen : (xs : List X) → position (bytes_eq n) (map f xs) ≡ position (λ x. bytes_eq n (f x)) xs
-  place_seen xs = λ j. cond (nat_lt (place_or_len_seen xs j) (length_names xs j)) (Some (place_or_len_seen xs j)) None
-
   at_place : (xs : List X) (i : ℕ) (b : Bool) → nat_lt i (length xs) ≡ b → option_and_then (λ j. slice_get xs j) (cond b (Some i) None) ≡ slice_get xs i
   at_place xs i true e = refl
   at_place xs i false e = sym (slice_get_past xs i (grind (arith, nat_tests)))
@@ -33,7 +24,7 @@ module _ {X : Type 0} (f : X → List ℕ) (n : List ℕ) where
   -- the entry at the place of a name is the first of the name
   pub found_at_place : (xs : List X) → option_and_then (λ i. slice_get xs i) (position (bytes_eq n) (map f xs)) ≡ find (λ x. bytes_eq n (f x)) xs
   found_at_place xs =
-      ap (option_and_then (λ i. slice_get xs i)) (place_seen xs)
+      ap (option_and_then (λ i. slice_get xs i)) (place_seen f n xs)
       ∙ at_place xs (position_or_len (λ x. bytes_eq n (f x)) xs) _ refl
       ∙ sym (find_at (λ x. bytes_eq n (f x)) xs)
 

@@ -1,5 +1,5 @@
 -- What the program's walks over classes and attributes compute.
-use Rattle.std.proofs.Common.{◌≡◌, ℕ, ◌+◌, ◌<◌, Bool, true, false, not, ◌&&◌, ◌||◌, List, [], ◌∷◌, Option, Some, length, get_or, map, take, drop, ◌-◌, refl, sym, ap, ◌∙◌, arith, cond}
+use Rattle.std.proofs.Common.{◌≡◌, ℕ, ◌+◌, ◌<◌, Bool, true, false, not, ◌&&◌, List, [], ◌∷◌, Option, Some, length, get_or, map, take, drop, ◌-◌, refl, sym, ap, ◌∙◌, arith, cond}
 use Rattle.std.specs.List.{list_any, list_all}
 use Rattle.std.specs.Option.{option_map, option_and_then}
 use Rattle.std.specs.Str.{bytes_eq}
@@ -8,7 +8,9 @@ use Rattle.std.proofs.lemmas.List.Folds.{list_all-map}
 use Rattle.kola_core.specs.declared.name.Name.{Name}
 use Rattle.kola_values.specs.Types.{TypeTree}
 use Rattle.kola_values.specs.Databases.{Class, Classes, attribute_type, look_up}
-use Rattle.kola_values.specs.Schemas.{is_listed, are_distinct, names_of, class_names, extent_names, is_stored_type, is_key, is_class, is_schema, class_named}
+use Rattle.kola_core.specs.NameLists.{is_listed}
+use Rattle.kola_core.proofs.NameLists.{listed_seen}
+use Rattle.kola_values.specs.Schemas.{are_distinct, names_of, class_names, extent_names, is_stored_type, is_key, is_class, is_schema, class_named}
 use Rattle.kola_values.specs.Sets.{Each}
 use Rattle.kola_values.specs.Views.{type_tree, type_entry}
 use Rattle.kola_values.specs.SchemaViews.{class_tree}
@@ -27,15 +29,11 @@ pub not_the_second : (a b c : Bool) → a ≡ true → b ≡ false → false ≡
 not_the_second a b c p q = rw (p, q)
 
 module _ {X : Type 0} (f : X → List ℕ) where
-  pub listed_seen : (n : List ℕ) (xs : List X) → list_any (λ x. bytes_eq n (f x)) xs ≡ is_listed n (map f xs)
-  listed_seen n [] = refl
-  listed_seen n (x ∷ xs) = ap (λ b. bytes_eq n (f x) || b) (listed_seen n xs)
-
   module _ (xs : List X) (i : ℕ) (d : X) (p : i < length xs) where
     distinct_step : are_distinct (map f (drop i xs)) ≡ (not (list_any (λ y. bytes_eq (f (get_or xs i d)) (f y)) (take (length xs - (i + 1)) (drop (i + 1) xs))) && are_distinct (map f (drop (i + 1) xs)))
     distinct_step =
         ap (λ l. are_distinct (map f l)) (drop_more xs i d p)
-        ∙ ap (λ b. not b && are_distinct (map f (drop (i + 1) xs))) (sym (listed_seen (f (get_or xs i d)) (drop (i + 1) xs)))
+        ∙ ap (λ b. not b && are_distinct (map f (drop (i + 1) xs))) (sym (listed_seen f (f (get_or xs i d)) (drop (i + 1) xs)))
         ∙ ap (λ l. not (list_any (λ y. bytes_eq (f (get_or xs i d)) (f y)) l) && are_distinct (map f (drop (i + 1) xs))) (sym (rest_taken xs (i + 1)))
 
     -- a name that stands not again

@@ -8,7 +8,8 @@ use Rattle.kola_values.specs.Order.{same}
 use Rattle.kola_values.specs.Sets.{Each, has}
 use Rattle.kola_values.specs.WellFormed.{WellFormed}
 use Rattle.kola_values.specs.Databases.{Class, Object, Classes, Objects, look_up, value_or_unit}
-use Rattle.kola_values.specs.Schemas.{is_listed, are_distinct, names_of, class_named}
+use Rattle.kola_core.specs.NameLists.{is_listed}
+use Rattle.kola_values.specs.Schemas.{are_distinct, names_of, class_named}
 use Rattle.kola_values.specs.Meets.{object_values}
 
 abbrev mutual

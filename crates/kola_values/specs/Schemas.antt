@@ -1,13 +1,10 @@
 -- When a list of classes is a well-formed schema, and the parts of a schema by their names.
 use Rattle.std.specs.Prelude.{ℕ, Bool, true, false, not, ◌&&◌, List, [], ◌∷◌, Option, Some, None, map, cond, slice_get, option_map, option_and_then}
-use Rattle.std.specs.List.{list_any, list_all}
+use Rattle.std.specs.List.{list_all}
 use Rattle.std.specs.Str.{bytes_eq}
 use Rattle.kola_values.specs.Types.{TypeTree, TInt, TStr, TBool, TUnit, TClass, TVar, TSet, TPair, TStruct}
+use Rattle.kola_core.specs.NameLists.{is_listed}
 use Rattle.kola_values.specs.Databases.{Class, Classes}
-
--- a name is one of a list
-abbrev pub is_listed : List ℕ → List (List ℕ) → Bool
-is_listed n ms = list_any (bytes_eq n) ms
 
 -- no name stands twice
 abbrev pub are_distinct : List (List ℕ) → Bool

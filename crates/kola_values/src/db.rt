@@ -13,9 +13,8 @@ ghost use Rattle.kola_values.specs.ObjectViews.{object_tree, object_at};
 ghost use Rattle.kola_values.specs.ExtentViews.{filled};
 
 use crate::entries::entry_named;
-use crate::name_table::NameTable;
 use crate::{ObjectDef, Schema, Set, Value};
-use kola_core::{Memory, Name};
+use kola_core::{Memory, Name, NameTable};
 use std::alloc::Global;
 use std::cmp::Ordering;
 use std::marker::Model;
@@ -90,7 +89,7 @@ fn table_of(alloc: Global, extents: &[Extent]) -> Result<NameTable, Memory>
 {
     let mut names = NameTable::new(alloc);
     for extent in extents {
-        names.push(&extent.name)?;
+        names.add(extent.name.as_text())?;
     }
     Ok(names)
 }
@@ -165,7 +164,7 @@ impl Db {
     pub fn extent(&self, name: &Name) -> Option<&Set>
         ensures { option_copied result ≡ extent_in self.now name.now }
     {
-        let place = self.names.place(name)?;
+        let place = self.names.place(name.as_text())?;
         members_at(&self.extents, place)
     }
 

@@ -9,7 +9,6 @@ mod entries;
 mod keyed;
 mod laws;
 mod meets;
-mod name_table;
 mod object;
 mod objects;
 mod order;

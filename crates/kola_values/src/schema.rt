@@ -10,9 +10,8 @@ ghost use Rattle.kola_values.specs.Views.{type_tree};
 ghost use Rattle.kola_values.specs.SchemaViews.{class_tree, class_at, type_at};
 
 use crate::entries::{has_label, labels_are_distinct};
-use crate::name_table::NameTable;
 use crate::{Fields, Ty};
-use kola_core::{Items, Memory, Name, Names};
+use kola_core::{Items, Memory, Name, NameTable, Names};
 use std::alloc::Global;
 use std::marker::Model;
 
@@ -135,7 +134,7 @@ fn class_table(alloc: Global, classes: &[ClassDef]) -> Result<NameTable, Memory>
 {
     let mut names = NameTable::new(alloc);
     for class in classes {
-        names.push(&class.name)?;
+        names.add(class.name.as_text())?;
     }
     Ok(names)
 }
@@ -147,7 +146,7 @@ fn extent_table(alloc: Global, classes: &[ClassDef]) -> Result<NameTable, Memory
 {
     let mut names = NameTable::new(alloc);
     for class in classes {
-        names.push(&class.extent)?;
+        names.add(class.extent.as_text())?;
     }
     Ok(names)
 }
@@ -159,7 +158,7 @@ fn attribute_table(alloc: Global, entries: &[(Name, Ty)]) -> Result<NameTable, M
 {
     let mut names = NameTable::new(alloc);
     for entry in entries {
-        names.push(&entry.0)?;
+        names.add(entry.0.as_text())?;
     }
     Ok(names)
 }
@@ -208,7 +207,7 @@ impl IndexedClass {
     fn attribute(&self, a: &Name) -> Option<&Ty>
         ensures { option_map type_at result ≡ look_up a.now self.now.attributes }
     {
-        let place = self.attributes.place(a)?;
+        let place = self.attributes.place(a.as_text())?;
         let entry = self.class.attributes.get(place)?;
         Some(&entry.1)
     }
@@ -298,7 +297,7 @@ impl Schema {
     pub fn class_of(&self, extent: &Name) -> Option<&Name>
         ensures { option_copied result ≡ extent_class self.now extent.now }
     {
-        let place = self.extents.place(extent)?;
+        let place = self.extents.place(extent.as_text())?;
         let class = self.at(place)?;
         Some(&class.get().name)
     }
@@ -338,7 +337,7 @@ impl Schema {
     fn by_name(&self, name: &Name) -> Option<&IndexedClass>
         ensures { option_copied result ≡ class_named self.now name.now }
     {
-        let place = self.names.place(name)?;
+        let place = self.names.place(name.as_text())?;
         self.at(place)
     }
 

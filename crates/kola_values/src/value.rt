@@ -334,8 +334,8 @@ impl Set {
         self.members
     }
 
-    /// The allocator that the set keeps.
-    pub fn allocator(&self) -> Global {
+    // The allocator that the set keeps.
+    pub(crate) fn allocator(&self) -> Global {
         *self.members.allocator()
     }
 

@@ -1,6 +1,6 @@
 use Rattle.std.proofs.Common.{◌≡◌, ℕ, Bool, List, not, sym, ap, ◌∙◌}
 use Rattle.std.proofs.Common.{Some}
-use Rattle.kola_values.specs.Schemas.{is_listed}
+use Rattle.kola_core.specs.NameLists.{is_listed}
 use Rattle.kola_load.proofs.MemberNames.{left_first, left_next, left_found, left_none}
 use Rattle.kola_load.proofs.names.least_unknown.Given.{Over}
 use Rattle.kola_load.proofs.names.least_unknown.Goals as goal

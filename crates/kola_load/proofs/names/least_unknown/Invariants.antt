@@ -1,5 +1,5 @@
 use Rattle.std.proofs.Common.{not}
-use Rattle.kola_values.specs.Schemas.{is_listed}
+use Rattle.kola_core.specs.NameLists.{is_listed}
 use Rattle.kola_load.proofs.MemberNames.{Left}
 use Rattle.kola_load.proofs.names.least_unknown.Given as goal
 

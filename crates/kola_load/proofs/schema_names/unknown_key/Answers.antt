@@ -1,5 +1,5 @@
 use Rattle.std.proofs.Common.{map}
-use Rattle.kola_values.specs.Schemas.{is_listed}
+use Rattle.kola_core.specs.NameLists.{is_listed}
 use Rattle.kola_load.specs.FirstMarks.{unless, unknown_key}
 use Rattle.kola_load.specs.SchemaViews.{named_view}
 use Rattle.kola_load.specs.declared.schema_fault.NameWhy.TheVariants.{UnknownKeyAttribute}

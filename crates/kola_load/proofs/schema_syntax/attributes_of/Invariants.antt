@@ -1,5 +1,5 @@
 use Rattle.std.proofs.Common.{◌≡◌, length, map}
-use Rattle.kola_load.specs.Listed.{listed}
+use Rattle.kola_parse.specs.Listed.{listed}
 use Rattle.kola_load.specs.SchemaReaders.{type_at, next_attribute, attributes_at}
 use Rattle.kola_load.specs.SchemaViews.{attribute_view}
 use Rattle.kola_load.proofs.schema_syntax.attributes_of.Given as goal

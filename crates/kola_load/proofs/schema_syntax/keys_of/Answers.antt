@@ -1,6 +1,6 @@
 use Rattle.std.proofs.Common.{◌∙◌, option_map}
 use Rattle.kola_load.specs.SchemaViews.{key_view}
-use Rattle.kola_load.proofs.ListedLaws.{listed_more, item_shorter}
+use Rattle.kola_parse.proofs.ListedLaws.{listed_more, item_shorter}
 use Rattle.kola_load.proofs.SchemaLaws.{key_list}
 use Rattle.kola_load.proofs.schema_syntax.keys_of.Goals as goal
 

@@ -1,6 +1,6 @@
 use Rattle.std.proofs.Common.{◌∙◌}
 use Rattle.kola_load.specs.SchemaViews.{named_view}
-use Rattle.kola_load.proofs.ListedLaws.{listed_more}
+use Rattle.kola_parse.proofs.ListedLaws.{listed_more}
 use Rattle.kola_load.proofs.SchemaLaws.{name_list}
 use Rattle.kola_load.proofs.schema_syntax.names_of.Goals as goal
 

@@ -1,5 +1,5 @@
 use Rattle.std.proofs.Common.{◌≡◌, length, map}
-use Rattle.kola_load.specs.Listed.{listed}
+use Rattle.kola_parse.specs.Listed.{listed}
 use Rattle.kola_load.specs.SchemaReaders.{next_name, names_at}
 use Rattle.kola_load.specs.SchemaViews.{named_view}
 use Rattle.kola_load.proofs.schema_syntax.names_of.Given as goal

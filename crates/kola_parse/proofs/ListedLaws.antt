@@ -11,7 +11,7 @@ use Rattle.kola_parse.specs.Kinds.{Lang}
 use Rattle.kola_parse.proofs.ReaderLaws.{nil_of}
 use Rattle.kola_parse.proofs.GoodReaders.{good_as, made_good, made_reads}
 use Rattle.kola_parse.proofs.Rounds.{rounds_good, rounds_goes, rounds_ends, rounds_fails}
-use Rattle.kola_load.specs.Listed.{Listed, grown, listed}
+use Rattle.kola_parse.specs.Listed.{Listed, grown, listed}
 
 -- an item, or the last text
 abbrev pub ItemOr : {T A : Type 0} → Lang T A → (List T → Type 0) → Lang T (Option A)

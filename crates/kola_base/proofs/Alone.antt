@@ -7,12 +7,13 @@ use Rattle.kola_base.specs.declared.class.Class.TheVariants.{Letter, Digit, Minu
 use Rattle.kola_base.specs.declared.scan.Sort.TheVariants as sorts
 use Rattle.kola_base.specs.Pieces.{class, goes_on, shape, piece}
 use Rattle.kola_base.specs.Scanning.{next_class, first_by, first_piece}
+use Rattle.kola_base.proofs.Digits.{IsDigits}
 
 -- the class of the first byte passes, or that of no piece where there is none
 abbrev pub Before : (Class → Bool) → List ℕ → Type 0
 Before K text = K (next_class (map class text)) ≡ true
 
--- what may begin a term, and so stand behind `<`
+-- what may stand behind `<` and leave it a sign of its own
 abbrev pub opens : Class → Bool
 opens Equal = false
 opens _ = true
@@ -70,9 +71,6 @@ word_begins J [] rest j h = absurd cc
 word_begins J (b ∷ cs) rest j h = letter_first J (class b) (map class cs) j h
 
 -- ---- numbers
-
-abbrev pub IsDigits : List ℕ → Type 0
-IsDigits ds = list_all (goes_on sorts.Number) (map class ds) ≡ true
 
 digit_at : (k : Class) (cs rest : List ℕ) → goes_on sorts.Number k ≡ true → IsDigits cs → Before apart rest → first_by k (next_class (map class (cs ++ rest))) (map class (cs ++ rest)) ≡ Some (sorts.Number, suc (length cs))
 digit_at Digit cs rest k h e = ap (λ n. Some (sorts.Number, suc n)) (run_is (goes_on sorts.Number) cs rest h (no_digit (next_class (map class rest)) e))

@@ -49,6 +49,7 @@ fn samples(rt: HostRuntime) -> Result<(), Fail> {
     for (ssn, cars, year, wanted) in [
         ("b", "[1,1]", "1990", "2 2"),
         ("a", "[1,1]", "1990", "KeyRepeats Person 1 1 2"),
+        ("b", "[1,2,1,2,1,2,1,2,2,2,2,1]", "1990", "2 2"),
         ("b", "[7]", "1990", "NoSuchObject Person 2 cars 7"),
         ("b", "[7,null]", "1990", "WrongType Person 2 cars"),
         ("b", "[]", "1.5", "WrongType Vehicle 1 year"),

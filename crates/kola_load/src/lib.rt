@@ -6,6 +6,7 @@ mod db_laws;
 mod elements;
 mod extents;
 mod fault;
+mod gathered;
 mod ids;
 mod json;
 mod keys;

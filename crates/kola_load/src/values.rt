@@ -8,10 +8,11 @@ ghost use Rattle.kola_values.specs.Views.{type_tree, value_tree};
 ghost use Rattle.kola_load.specs.Ids.{there};
 ghost use Rattle.kola_load.specs.Written.{whole, value_of, references};
 
+use crate::gathered::Gathered;
 use crate::ids::Ids;
 use crate::json::id_of;
 use kola_core::{Memory, Text};
-use kola_values::{Set, Ty, Value};
+use kola_values::{Ty, Value};
 use serde_json::Value as Json;
 use std::alloc::Global;
 
@@ -51,14 +52,14 @@ pub(crate) fn value_of(alloc: Global, t: &Ty, value: &Json) -> Result<Option<Val
 fn set_of(alloc: Global, t: &Ty, elements: &[Json]) -> Result<Option<Value>, Memory>
     ensures { IfOk result (λ o. option_map value_tree o ≡ option_map set_of (whole (map (value_of (type_tree t.now)) (map view elements.now)))) }
 {
-    let mut members = Vec::new(alloc);
+    let mut members = Gathered::new(alloc);
     for element in elements {
         match value_of(alloc, t, element)? {
-            Some(member) => members.push(member)?,
+            Some(member) => members = members.with(alloc, member)?,
             None => return Ok(None),
         }
     }
-    let set = Set::from_members(alloc, members)?;
+    let set = members.into_set(alloc)?;
     Ok(Some(Value::Set(set)))
 }
 

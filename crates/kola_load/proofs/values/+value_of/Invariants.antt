@@ -1,6 +1,8 @@
-use Rattle.std.proofs.Common.{◌+◌, ◌*◌, map}
+use Rattle.std.proofs.Common.{◌≡◌, ◌+◌, ◌*◌, List, map}
 use Rattle.serde_json.specs.View.{view}
-use Rattle.kola_values.specs.Views.{type_tree, value_tree}
+use Rattle.kola_values.specs.Values.{ValueTree}
+use Rattle.kola_values.specs.Sets.{canon}
+use Rattle.kola_values.specs.Views.{type_tree}
 use Rattle.kola_values.specs.Models.Weights.{type_weight}
 use Rattle.kola_load.specs.Written.{value_of}
 use Rattle.kola_load.proofs.ValueLoops.{AreSoFar}
@@ -13,4 +15,4 @@ abbrev pub decreases-set_of : goal.decreases-set_of
 decreases-set_of l = 2 * type_weight (type_tree l.t.now) + 1
 
 abbrev pub invariant-set_of-loop-element : goal.invariant-set_of-loop-element
-invariant-set_of-loop-element l = AreSoFar value_tree (value_of (type_tree l.t)) (map view l.elements) l.element-index l.members.items
+invariant-set_of-loop-element l = (done : List ValueTree) × (l.members ≡ canon done) × AreSoFar (value_of (type_tree l.t)) (map view l.elements) l.element-index done

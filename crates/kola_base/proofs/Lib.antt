@@ -15,3 +15,4 @@ pub mod PlacedLaws
 pub mod Printed
 pub mod Alone
 pub mod NumbersBack
+pub mod SignLaws

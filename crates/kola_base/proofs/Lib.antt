@@ -16,3 +16,6 @@ pub mod Printed
 pub mod Alone
 pub mod NumbersBack
 pub mod SignLaws
+pub mod SpelledLaws
+pub mod SymbolLaws
+pub mod TermWordLaws

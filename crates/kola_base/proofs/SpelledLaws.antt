@@ -23,7 +23,7 @@ use Rattle.kola_parse.proofs.ReaderLaws.{ends_none, ok_is, no_ok}
 use Rattle.kola_parse.proofs.GoodReaders.{whole_sound, whole_complete, whole_fault, front_fault, one_tree}
 
 module _ {A : Type 0} (p : ℕ → List Placed → Answer Placed A) (L : ℕ → A → List Placed → Type 0) (K : A → Placed → Bool)
-  (good : (d : ℕ) → Good (Unit {0}) (p d) (p (suc d)) (L d) (L (suc d)) K) (d : ℕ) (text : List ℕ) where
+    (good : (d : ℕ) → Good (Unit {0}) (p d) (p (suc d)) (L d) (L (suc d)) K) (d : ℕ) (text : List ℕ) where
   -- ---- what reading answers, where l are the tokens
 
   pub is_found : (toks : List Token) (l : List Placed) (x : A) → AreTokens toks text → l ≡ placed text toks → whole (p d) l ≡ Ok x → Spells (L d) text x

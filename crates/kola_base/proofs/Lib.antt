@@ -19,3 +19,4 @@ pub mod SignLaws
 pub mod SpelledLaws
 pub mod SymbolLaws
 pub mod TermWordLaws
+pub mod NamedLaws

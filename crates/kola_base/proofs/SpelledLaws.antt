@@ -1,20 +1,27 @@
 -- What reading all of a text, or a front of it, answers, for every family of readers that reads a family of languages.
-use Rattle.std.proofs.Common.{◌≡◌, ◌⊎◌, inl, inr, ◌≤◌, ◌<◌, ◌+◌, ◌-◌, ℕ, suc, Bool, List, ◌++◌, length, take, drop, append_assoc, Result, Ok, Err, refl, sym, ap, subst, ◌∙◌, arith}
+use Rattle.std.proofs.Common.{◌≡◌, ◌⊎◌, inl, inr, ◌≤◌, ◌<◌, ◌+◌, ◌-◌, ℕ, suc, Bool, List, ◌++◌, length, take, drop, append_assoc, Result, Ok, Err, IfOk, IfErr, refl, sym, ap, subst, ◌∙◌, arith}
 use Rattle.std.proofs.Math.Seq.{drop-append_seam}
 use Rattle.std.proofs.lemmas.List.{length-append, length-drop, take-append-drop}
 use Rattle.kola_base.specs.declared.lex.Token.{Token}
 use Rattle.kola_base.specs.declared.lex.LexWhy.{LexWhy}
 use Rattle.kola_base.specs.declared.text_fault.TextWhy.{TextWhy}
 use Rattle.kola_base.specs.declared.text_fault.TextWhy.TheVariants.{Lex, Unexpected, TooDeep}
-use Rattle.kola_base.specs.Tokens.{AreTokens, StopsAt}
+use Rattle.kola_base.specs.declared.lex.LexFault.{LexFault}
+use Rattle.kola_base.specs.declared.lex.LexFault.TheVariants as lexer
+use Rattle.kola_base.specs.declared.text_fault.TextFault.{TextFault}
+use Rattle.kola_base.specs.declared.text_fault.TextFault.TheVariants as faults
+use Rattle.kola_base.specs.Tokens.{AreTokens, StopsAt, IsFaultOf}
 use Rattle.kola_base.specs.Placed.{Placed, placed, place}
-use Rattle.kola_base.specs.Spelled.{Spells, FaultsAt, SyntaxAt, FaultOfText, FrontSpells, SyntaxFault, text_why}
+use Rattle.kola_base.specs.Spelled.{Spells, FaultsAt, SyntaxAt, FaultOfText, IsFault, IsAnswer, IsFaultAnswer, FrontSpells, SyntaxFault, IsPart, IsPartFault, text_why, of_lexer, is_stopped}
 use Rattle.kola_base.proofs.OneCut.{one_list, not_both}
 use Rattle.kola_base.proofs.OneCut as cuts
 use Rattle.kola_base.proofs.Total.{tokens_or_fault}
 use Rattle.kola_base.proofs.PlacedLaws.{placed_drop, placed_length}
 use Rattle.kola_parse.specs.declared.why.Why.{Why}
 use Rattle.kola_parse.specs.declared.why.Why.TheVariants as why
+use Rattle.kola_parse.specs.declared.stop.Stop.{Stop}
+use Rattle.kola_parse.specs.declared.stop.Stop.TheVariants as stop
+use Rattle.kola_parse.specs.Given.{Fails}
 use Rattle.kola_parse.specs.Reader.{Answer, Fault, fault, whole}
 use Rattle.kola_parse.specs.Reading.{never, Good}
 use Rattle.kola_parse.specs.Faults.{Accepted, Unlimited}
@@ -107,6 +114,26 @@ module _ {A : Type 0} (p : ℕ → List Placed → Answer Placed A) (L : ℕ →
       by (inl (toks, a)) = seen (syntax_once toks a)
       by (inr (at, w, s)) = inr (at, Lex w, s)
 
+  -- ---- what is answered, from what is found and refused
+
+  pub lexed_fault : (f : LexFault) → IsFaultOf text f → IsFault L d text (of_lexer f)
+  lexed_fault lexer.Memory h = tt
+  lexed_fault (lexer.At at w) h = h
+
+  pub stop_fault : (toks : List Token) (l : List Placed) → AreTokens toks text → l ≡ placed text toks → (s : Stop (List Placed)) → Fails s (whole (p d) l) → IsFault L d text (is_stopped (length text) s)
+  stop_fault toks l a i stop.Memory e = tt
+  stop_fault toks l a i (stop.Before y r) e = is_fault toks l (place (length text) r) y r a i e refl
+
+  pub answer_only : {X : Type 0} (view : X → A) (r : Result X TextFault) → IfOk r (λ t. Spells (L d) text (view t)) → IfErr r (IsFault L d text) → (x : A) → Spells (L d) text x → IsAnswer view x r
+  answer_only view (Ok y) h k x w = one_spelled (view y) x h w
+  answer_only view (Err faults.Memory) h k x w = tt
+  answer_only view (Err (faults.At at y)) h k x w = absurd (spelled_or_fault x at y w k)
+
+  pub answer_at : {X : Type 0} (view : X → A) (r : Result X TextFault) → IfOk r (λ t. Spells (L d) text (view t)) → IfErr r (IsFault L d text) → (at : ℕ) (w : TextWhy) → FaultOfText L d text at w → IsFaultAnswer at w r
+  answer_at view (Ok y) h k at w f = spelled_or_fault (view y) at w h f
+  answer_at view (Err faults.Memory) h k at w f = tt
+  answer_at view (Err (faults.At b v)) h k at w f = one_text_fault b at v w k f
+
 -- ---- a front of the tokens from one of them on
 
 -- what is left of a list stands behind the rest of it
@@ -183,6 +210,14 @@ module _ (text : List ℕ) (toks : List Token) (are : AreTokens toks text) where
 
     pub front_fault_at : (l : List Placed) (at : ℕ) (w : Why) (r : List Placed) → l ≡ front_of → p d l ≡ Err (fault w r) → at ≡ place (length text) r → SyntaxFault L d front_of (length text) at (text_why w)
     front_fault_at l at w r i e k = as_part_fault at w (front_faults l at w r i e k)
+
+    pub part_stop_fault : (l : List Placed) → l ≡ front_of → (s : Stop (List Placed)) → Fails s (p d l) → IsPartFault L d text toks from (is_stopped (length text) s)
+    part_stop_fault l i stop.Memory e = tt
+    part_stop_fault l i (stop.Before y r) e = front_fault_at l (place (length text) r) y r i e refl
+
+    pub part_stop_only : {X : Type 0} (view : X → A) (l : List Placed) → l ≡ front_of → (s : Stop (List Placed)) → Fails s (p d l) → (x : A) (v q : List Placed) → front_of ≡ v ++ q → L d x v → IsPart view x q text toks (Err (is_stopped (length text) s))
+    part_stop_only view l i stop.Memory e x v q k h = tt
+    part_stop_only view l i (stop.Before y r) e x v q k h = absurd (front_none l x v q (fault y r) i e k h)
 
     -- ---- one front is spelled, or there is one first fault
 

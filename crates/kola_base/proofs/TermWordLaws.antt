@@ -6,6 +6,7 @@ use Rattle.kola_base.specs.declared.term_word.TermWord.{TermWord}
 use Rattle.kola_base.specs.declared.term_word.TermWord.TheVariants as w
 use Rattle.kola_base.specs.TermWords.{term_word_spelling, term_words, term_word_named}
 use Rattle.kola_base.proofs.SignLaws.{find_passes, name_equal}
+use Rattle.kola_base.proofs.SymbolLaws.{Words}
 
 pub word_again : (w : TermWord) → term_word_named (term_word_spelling w) ≡ Some w
 unfolding term_word_named term_words
@@ -65,3 +66,6 @@ word_again w.End = refl
 pub word_spells : (bs : List ℕ) (w : TermWord) → term_word_named bs ≡ Some w → term_word_spelling w ≡ bs
 unfolding term_word_named
 word_spells bs w e = name_equal (term_word_spelling w) bs (find_passes (λ v. bytes_eq (term_word_spelling v) bs) term_words w e)
+
+abbrev pub term_word_table : Words TermWord
+term_word_table = record { spelling = term_word_spelling; named = term_word_named; again = word_again; spells = word_spells }

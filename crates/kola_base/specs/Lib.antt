@@ -15,3 +15,5 @@ pub mod TermWords
 pub mod Alphabets
 pub mod AlphabetViews
 pub mod Spelled
+pub mod Named
+pub mod NamedViews

@@ -55,6 +55,12 @@ IsAnswer view x (Ok y) = view y ≡ x
 IsAnswer view x (Err Memory) = Unit {0}
 IsAnswer view x (Err (At at w)) = ⊥
 
+-- what is answered is the fault, unless memory ran out
+abbrev pub IsFaultAnswer : {X : Type 0} → ℕ → TextWhy → Result X TextFault → Type 0
+IsFaultAnswer at w (Ok y) = ⊥
+IsFaultAnswer at w (Err Memory) = Unit {0}
+IsFaultAnswer at w (Err (At b v)) = (b ≡ at) × (v ≡ w)
+
 -- a cause of the syntax as a cause of the text
 abbrev pub text_why : Why → TextWhy
 text_why why.Unexpected = Unexpected

@@ -24,6 +24,7 @@ pub mod Places
 pub mod Reordered
 pub mod Stored
 pub mod Runs
+pub mod Numbered
 pub mod NameTests
 mod SchemaExamples
 mod MeetExamples

@@ -30,7 +30,7 @@ pub use meets::{ObjectsRefused, objects_ok};
 pub use object::ObjectDef;
 pub use objects::shaped;
 pub use order::cmp_values;
-pub use schema::{ClassDef, Keys, Schema, classes_ok};
+pub use schema::{ClassDef, IndexedClass, Keys, Schema, classes_ok};
 pub use schema_laws::tests_of_names_are_exact;
 pub use text::{
     push_bytes, push_int, push_number, push_set, push_text, push_type, push_value, type_text,

@@ -2,9 +2,9 @@
 ghost use Rattle.std.specs.Prelude.{◌≡◌, codes, ◌∷◌, map, IfOk};
 ghost use Rattle.serde_json.specs.Data.{object};
 ghost use Rattle.serde_json.specs.View.{view, members_view};
-ghost use Rattle.kola_values.specs.Schemas.{names_of};
-ghost use Rattle.kola_values.specs.SchemaViews.{class_tree};
-ghost use Rattle.kola_values.specs.ObjectViews.{object_tree};
+ghost use Rattle.kola_schema.specs.Schemas.{names_of};
+ghost use Rattle.kola_schema.specs.SchemaViews.{class_tree};
+ghost use Rattle.kola_database.specs.ObjectViews.{object_tree};
 ghost use Rattle.kola_values.specs.Views.{type_entry, value_entry};
 ghost use Rattle.kola_load.specs.Calls.{Finds};
 ghost use Rattle.kola_load.specs.Ids.{there};
@@ -20,7 +20,9 @@ use crate::json::own_id;
 use crate::names::{Knows, least_unknown};
 use crate::values::{missing, value_of};
 use kola_core::{Memory, Name, Text};
-use kola_values::{ClassDef, IndexedClass, ObjectDef, Schema, Ty, Value, ValueFields};
+use kola_database::ObjectDef;
+use kola_schema::{ClassDef, IndexedClass, Schema};
+use kola_values::{Ty, Value, ValueFields};
 use serde_json::{Map, Value as Json};
 use std::alloc::Global;
 

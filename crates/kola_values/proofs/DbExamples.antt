@@ -4,8 +4,8 @@ use Rattle.kola_values.specs.Values.{VUnit, VInt, VStr, VObj}
 use Rattle.kola_values.specs.Order.{same}
 use Rattle.kola_values.specs.Sets.{any, has}
 use Rattle.kola_values.specs.Databases.{Object, Objects, objects_of, attribute_of}
-use Rattle.kola_values.specs.Stored.{Database, extents_of, attributes_of, extent_in, extent_at, attribute_in, attribute_at}
-use Rattle.kola_values.proofs.SchemaExamples.{sample}
+use Rattle.kola_database.specs.Stored.{Database, extents_of, attributes_of, extent_in, extent_at, attribute_in, attribute_at}
+use Rattle.kola_schema.proofs.SchemaExamples.{sample}
 
 abbrev person : ℕ → List ℕ → Object
 person i name = record { class = codes "Person"; id = i; values = (codes "first", VStr name) ∷ (codes "last", VStr (codes "Ito")) ∷ [] }

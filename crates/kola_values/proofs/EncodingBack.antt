@@ -7,7 +7,7 @@ use Rattle.kola_values.specs.Types.{TypeTree, TSet, of_type_fields}
 use Rattle.kola_values.specs.Values.{ValueTree, VUnit, VInt, VBool, VStr, VObj, VPair, VStruct, VSet, FieldValues, VEnd, VField, of_items, fields, of_fields}
 use Rattle.kola_values.specs.Sets.{Rising, Each}
 use Rattle.kola_values.specs.WellFormed.{WellFormed, WellFormedMembers}
-use Rattle.kola_values.specs.Encoding.{dec, dec_fields}
+use Rattle.kola_canon.specs.Encoding.{dec, dec_fields}
 use Rattle.kola_values.specs.Views.{type_tree, type_entry, value_tree}
 use Rattle.kola_values.specs.declared.ty.Ty.{Ty}
 use Rattle.kola_values.specs.declared.value.Value.{Value}

@@ -2,7 +2,7 @@
 use Rattle.std.proofs.Common.{◌≡◌, pos, true, [], ◌∷◌, codes, refl}
 use Rattle.kola_values.specs.Values.{ValueTree, VInt, VBool, VStr, VPair, VStruct, VSet, VEnd, VField, of_items}
 use Rattle.kola_values.specs.Types.{TypeTree, TInt, TStr, TBool, TSet, TPair, TStruct, TEnd, TField}
-use Rattle.kola_values.specs.Encoding.{enc, enc_type, dec}
+use Rattle.kola_canon.specs.Encoding.{enc, enc_type, dec}
 
 abbrev one : ValueTree
 one = VInt (pos 1)

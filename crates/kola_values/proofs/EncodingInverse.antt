@@ -5,10 +5,10 @@ use Rattle.kola_values.specs.Types.{TypeTree, TInt, TStr, TBool, TUnit, TClass, 
 use Rattle.kola_values.specs.Sets.{Rising, Each}
 use Rattle.kola_values.specs.Databases.{Objects, HasType, HaveTypes}
 use Rattle.kola_values.specs.WellFormed.{WellFormed, WellFormedMembers, WellFormedFields}
-use Rattle.kola_values.specs.Encoding.{enc, enc_fields, enc_members, enc_type, enc_field_types, dec, dec_fields, Shaped, ShapedFields}
+use Rattle.kola_canon.specs.Encoding.{enc, enc_fields, enc_members, enc_type, enc_field_types, dec, dec_fields, Shaped, ShapedFields}
 use Rattle.kola_values.proofs.Anys.{each_from, items-of_items, of_items-items}
 use Rattle.kola_values.proofs.Each.{each_map}
-use Rattle.kola_values.proofs.EncodingOrder.{items-enc, enc_members-of_items, rising_enc, rising_from_enc, enc_exact}
+use Rattle.kola_canon.proofs.EncodingOrder.{items-enc, enc_members-of_items, rising_enc, rising_from_enc, enc_exact}
 
 -- ---- the values of a type have its shape
 

@@ -7,10 +7,10 @@ use Rattle.kola_values.specs.Types.{TypeTree, TPair, of_type_fields}
 use Rattle.kola_values.specs.Values.{ValueTree, VPair, VSet, of_items, of_fields}
 use Rattle.kola_values.specs.Sets.{Rising, Each}
 use Rattle.kola_values.specs.WellFormed.{WellFormed, WellFormedMembers}
-use Rattle.kola_values.specs.Encoding.{enc, enc_fields, enc_members, enc_type, enc_field_types}
+use Rattle.kola_canon.specs.Encoding.{enc, enc_fields, enc_members, enc_type, enc_field_types}
 use Rattle.kola_values.specs.Views.{type_tree, type_entry, value_tree, value_entry}
 use Rattle.kola_values.proofs.Anys.{items-of_items}
-use Rattle.kola_values.proofs.EncodingOrder.{items-enc}
+use Rattle.kola_canon.proofs.EncodingOrder.{items-enc}
 use Rattle.kola_values.specs.declared.ty.Ty.{Ty}
 use Rattle.kola_values.specs.declared.value.Value.{Value}
 

@@ -8,7 +8,7 @@ use Rattle.kola_values.specs.Values.{ValueTree, VUnit, VInt, VBool, VStr, VObj, 
 use Rattle.kola_values.specs.Types.{TypeTree, TInt, TStr, TBool, TUnit, TClass, TVar, TSet, TPair, TStruct, FieldTypes, TEnd, TField}
 use Rattle.kola_values.specs.Order.{cmp, cmp_members, cmp_fields, name_cmp}
 use Rattle.kola_values.specs.Sets.{Rising, canon, Each, set_of}
-use Rattle.kola_values.specs.Encoding.{enc, enc_fields, enc_members, Shaped, ShapedFields}
+use Rattle.kola_canon.specs.Encoding.{enc, enc_fields, enc_members, Shaped, ShapedFields}
 use Rattle.kola_values.specs.Models.Exact.{exact}
 use Rattle.kola_values.proofs.Anys.{any_canon, any_map, one_list, rising, itself}
 use Rattle.kola_values.proofs.Each.{each_canon}

@@ -7,7 +7,7 @@ use Rattle.kola_values.specs.Types.{TInt, TStr, TBool, TClass, TVar, TSet, TPair
 use Rattle.kola_values.specs.Order.{cmp, same}
 use Rattle.kola_values.specs.Sets.{canon, any, has, set_of}
 use Rattle.kola_values.specs.Merging.{merged}
-use Rattle.kola_values.specs.Spelling.{quoted, value_spelling, type_spelling}
+use Rattle.kola_canon.specs.Spelling.{quoted, value_spelling, type_spelling}
 
 abbrev one : ValueTree
 one = VInt (pos 1)

@@ -7,9 +7,9 @@ use Rattle.kola_core.proofs.Compare.{IsEqualBelow, step_equal, step_unequal, ste
 use Rattle.kola_values.specs.Values.{ValueTree}
 use Rattle.kola_values.specs.Order.{cmp}
 use Rattle.kola_values.specs.Databases.{Object}
-use Rattle.kola_values.specs.MeetsTests.{no_two}
-use Rattle.kola_values.specs.KeyedObjects.{value_at_name}
-use Rattle.kola_values.proofs.MeetingLoops.{any_seen}
+use Rattle.kola_database.specs.MeetsTests.{no_two}
+use Rattle.kola_database.specs.KeyedObjects.{value_at_name}
+use Rattle.kola_database.proofs.MeetingLoops.{any_seen}
 
 abbrev shown : Object × List ℕ → ValueTree
 shown q = value_at_name q.0 q.1

@@ -10,13 +10,13 @@ use Rattle.std.proofs.lemmas.Cmp.{lists_total}
 use Rattle.kola_values.specs.Values.{ValueTree, VObj}
 use Rattle.kola_values.specs.Order.{cmp, same}
 use Rattle.kola_values.specs.Databases.{Class, Object, Classes, Objects}
-use Rattle.kola_values.specs.Schemas.{class_named}
-use Rattle.kola_values.specs.MeetsTests.{no_two, agree_at, clash, keys_are_met}
-use Rattle.kola_values.specs.KeyedObjects.{value_at_name, keyed, keyed_from, all_keyed, keyed_objects, cmp_keyed, same_keyed}
+use Rattle.kola_schema.specs.Schemas.{class_named}
+use Rattle.kola_database.specs.MeetsTests.{no_two, agree_at, clash, keys_are_met}
+use Rattle.kola_database.specs.KeyedObjects.{value_at_name, keyed, keyed_from, all_keyed, keyed_objects, cmp_keyed, same_keyed}
 use Rattle.kola_values.specs.Models.Total.{cmp_total}
 use Rattle.kola_values.proofs.Anys.{equal, same_itself}
 use Rattle.kola_values.proofs.SameTypes.{name_equal}
-use Rattle.kola_values.proofs.MeetingTypes.{other_class}
+use Rattle.kola_database.proofs.MeetingTypes.{other_class}
 
 pub cmp_keyed_total : IsTotalOrder cmp_keyed
 cmp_keyed_total = lists_total cmp_total

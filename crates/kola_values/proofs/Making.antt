@@ -17,13 +17,13 @@ use Rattle.std.proofs.lemmas.Bool.Decides.{nat_tests}
 use Rattle.kola_values.specs.Values.{ValueTree}
 use Rattle.kola_values.specs.Order.{cmp, same}
 use Rattle.kola_values.specs.Sets.{Rising, canon, any, has}
-use Rattle.kola_values.specs.Meets.{NoneTwice}
+use Rattle.kola_schema.specs.Meets.{NoneTwice}
 use Rattle.kola_values.specs.Views.{value_tree}
 use Rattle.kola_values.specs.Models.Exact.{exact}
 use Rattle.kola_values.specs.Models.Total.{cmp_total}
 use Rattle.kola_values.specs.declared.value.Value.{Value}
 use Rattle.kola_values.proofs.Anys.{one_list, rising, any_canon, equal, same_itself, absent, reversed}
-use Rattle.kola_values.proofs.NameTests.{both_false}
+use Rattle.kola_values.proofs.Truth.{both_false}
 
 -- the order of values by their trees
 abbrev pub by_tree : Value → Value → Ordering

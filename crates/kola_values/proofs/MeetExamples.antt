@@ -5,12 +5,12 @@ use Rattle.kola_values.specs.Values.{ValueTree, VInt, VStr, VObj, VSet, of_items
 use Rattle.kola_values.specs.Types.{TypeTree, TInt, TSet, TClass}
 use Rattle.kola_values.specs.Databases.{Object, Objects, value_or_unit, attribute_type, look_up, HasType}
 use Rattle.kola_values.specs.WellFormed.{WellFormed}
-use Rattle.kola_values.specs.Meets.{FitsClass, Meets, agree_on}
+use Rattle.kola_schema.specs.Meets.{FitsClass, Meets, agree_on}
 use Rattle.kola_values.specs.Order.{same}
 use Rattle.kola_values.specs.Sets.{any}
-use Rattle.kola_values.specs.MeetsTests.{IsHeld, has_type, clash, keys_are_met, meets}
-use Rattle.kola_values.proofs.Meeting.{meets_from, meets_to}
-use Rattle.kola_values.proofs.SchemaExamples.{person, vehicle, sample}
+use Rattle.kola_database.specs.MeetsTests.{IsHeld, has_type, clash, keys_are_met, meets}
+use Rattle.kola_database.proofs.Meeting.{meets_from, meets_to}
+use Rattle.kola_schema.proofs.SchemaExamples.{person, vehicle, sample}
 
 -- a person with an ssn, a first and a last name, whose one car is the vehicle of the id
 abbrev someone : ℕ → List ℕ → List ℕ → List ℕ → ValueTree → Object

@@ -13,14 +13,14 @@ use Rattle.kola_values.specs.Sets.{Each, any, has}
 use Rattle.kola_values.specs.WellFormed.{WellFormed}
 use Rattle.kola_values.specs.Databases.{Class, Object, Classes, Objects, look_up, value_or_unit, attribute_of, HasType}
 use Rattle.kola_core.specs.NameLists.{is_listed}
-use Rattle.kola_values.specs.Schemas.{are_distinct, names_of, class_named, key_at}
-use Rattle.kola_values.specs.Meets.{FitsClass, NoneTwice, object_values, agree_on, Meets}
-use Rattle.kola_values.specs.MeetsTests.{is_there, IsHeld, no_two, same_object, is_value_of, are_typed, are_whole, fits_class, agree_at, clash, all_fit, keys_are_met, meets}
+use Rattle.kola_schema.specs.Schemas.{are_distinct, names_of, class_named, key_at}
+use Rattle.kola_schema.specs.Meets.{FitsClass, NoneTwice, object_values, agree_on, Meets}
+use Rattle.kola_database.specs.MeetsTests.{is_there, IsHeld, no_two, same_object, is_value_of, are_typed, are_whole, fits_class, agree_at, clash, all_fit, keys_are_met, meets}
 use Rattle.kola_values.proofs.Anys.{bool_same, equal, same_itself, same_comm}
-use Rattle.kola_values.proofs.NameTests.{not_true}
+use Rattle.kola_values.proofs.Truth.{not_true}
 use Rattle.kola_values.proofs.SameTypes.{and_true, both_true, name_equal, name_itself}
-use Rattle.kola_values.proofs.Schemas.{attribute_of_class}
-use Rattle.kola_values.proofs.MeetingTypes.{class_part, there_exactly, typed_from, typed_to}
+use Rattle.kola_schema.proofs.Schemas.{attribute_of_class}
+use Rattle.kola_database.proofs.MeetingTypes.{class_part, there_exactly, typed_from, typed_to}
 
 abbrev pub value_of_object : Object → ValueTree
 value_of_object o = VObj o.class o.id

@@ -14,14 +14,14 @@ use Rattle.kola_values.specs.Order.{same}
 use Rattle.kola_values.specs.Sets.{any}
 use Rattle.kola_values.specs.Databases.{look_up}
 use Rattle.kola_core.specs.NameLists.{is_listed}
-use Rattle.kola_values.specs.Schemas.{are_distinct, names_of}
-use Rattle.kola_values.specs.Meets.{object_values}
-use Rattle.kola_values.specs.MeetsTests.{typed_by, fields_typed_by, is_there, no_two}
+use Rattle.kola_schema.specs.Schemas.{are_distinct, names_of}
+use Rattle.kola_schema.specs.Meets.{object_values}
+use Rattle.kola_database.specs.MeetsTests.{typed_by, fields_typed_by, is_there, no_two}
 use Rattle.kola_values.specs.Views.{type_tree, type_entry, value_tree, value_entry}
-use Rattle.kola_values.specs.ObjectViews.{object_tree}
+use Rattle.kola_database.specs.ObjectViews.{object_tree}
 use Rattle.kola_values.specs.declared.ty.Ty.{Ty}
 use Rattle.kola_values.specs.declared.value.Value.{Value}
-use Rattle.kola_values.specs.declared.object.ObjectDef.{ObjectDef}
+use Rattle.kola_database.specs.declared.object.ObjectDef.{ObjectDef}
 use Rattle.kola_values.proofs.Anys.{items-of_items}
 
 -- ---- a value and a type

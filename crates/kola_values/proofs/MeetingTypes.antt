@@ -8,8 +8,8 @@ use Rattle.kola_values.specs.Order.{same}
 use Rattle.kola_values.specs.Sets.{Each, any, has}
 use Rattle.kola_values.specs.Databases.{Object, Objects, objects_of, HasType, HaveTypes}
 use Rattle.kola_values.specs.WellFormed.{WellFormed, WellFormedMembers, WellFormedFields}
-use Rattle.kola_values.specs.Encoding.{Shaped, ShapedFields}
-use Rattle.kola_values.specs.MeetsTests.{typed_by, fields_typed_by, is_there, has_type, anything}
+use Rattle.kola_values.specs.Shapes.{Shaped, ShapedFields}
+use Rattle.kola_database.specs.MeetsTests.{typed_by, fields_typed_by, is_there, has_type, anything}
 use Rattle.kola_values.proofs.Anys.{equal}
 use Rattle.kola_values.proofs.SameTypes.{and_true, both_true, name_equal, name_itself}
 

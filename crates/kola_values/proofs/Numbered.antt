@@ -11,17 +11,17 @@ use Rattle.kola_values.specs.Values.{VObj}
 use Rattle.kola_values.specs.Order.{cmp, same}
 use Rattle.kola_values.specs.Sets.{Rising, Each, canon}
 use Rattle.kola_values.specs.Databases.{Object, Objects, look_up, objects_of}
-use Rattle.kola_values.specs.Schemas.{are_distinct, names_of}
-use Rattle.kola_values.specs.Meets.{object_values}
-use Rattle.kola_values.specs.Stored.{Database, object_named, attribute_in, class_at, label_at, attribute_at}
-use Rattle.kola_values.specs.ObjectViews.{object_tree}
-use Rattle.kola_values.specs.ExtentViews.{extent_entry, extent_labels}
-use Rattle.kola_values.specs.declared.object.ObjectDef.{ObjectDef}
-use Rattle.kola_values.specs.declared.db.Extent.{Extent}
+use Rattle.kola_schema.specs.Schemas.{are_distinct, names_of}
+use Rattle.kola_schema.specs.Meets.{object_values}
+use Rattle.kola_database.specs.Stored.{Database, object_named, attribute_in, class_at, label_at, attribute_at}
+use Rattle.kola_database.specs.ObjectViews.{object_tree}
+use Rattle.kola_database.specs.ExtentViews.{extent_entry, extent_labels}
+use Rattle.kola_database.specs.declared.object.ObjectDef.{ObjectDef}
+use Rattle.kola_database.specs.declared.db.Extent.{Extent}
 use Rattle.kola_values.proofs.Making.{first_at_place}
 use Rattle.kola_values.proofs.SameTypes.{both_true, name_equal}
-use Rattle.kola_values.proofs.NameTests.{not_true}
-use Rattle.kola_values.proofs.Stored.{object_value, object_values_seen, object_found}
+use Rattle.kola_values.proofs.Truth.{not_true}
+use Rattle.kola_database.proofs.Stored.{object_value, object_values_seen, object_found}
 
 -- the set of a number
 pub members_numbered : (xs : List Extent) (d : Objects) (n : ℕ) → Each (λ (x : Extent). x.members ≡ canon (objects_of x.class d)) xs

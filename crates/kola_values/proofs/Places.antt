@@ -10,11 +10,11 @@ use Rattle.kola_core.proofs.Lists.{seen, longer}
 use Rattle.kola_core.proofs.NameLists.{place_seen}
 use Rattle.kola_values.specs.Databases.{Class, Classes, look_up, extent_class}
 use Rattle.kola_core.specs.NameLists.{is_listed}
-use Rattle.kola_values.specs.Schemas.{are_distinct, names_of, class_names, extent_names, class_named}
+use Rattle.kola_schema.specs.Schemas.{are_distinct, names_of, class_names, extent_names, class_named}
 use Rattle.kola_values.proofs.SameTypes.{both_true, name_equal, name_itself}
 use Rattle.kola_values.proofs.Anys.{bool_same}
-use Rattle.kola_values.proofs.NameTests.{not_true, both_false}
-use Rattle.kola_values.proofs.Schemas.{choose}
+use Rattle.kola_values.proofs.Truth.{not_true, both_false}
+use Rattle.kola_schema.proofs.Schemas.{choose}
 
 module _ {X : Type 0} (f : X → List ℕ) (n : List ℕ) where
   at_place : (xs : List X) (i : ℕ) (b : Bool) → nat_lt i (length xs) ≡ b → option_and_then (λ j. slice_get xs j) (cond b (Some i) None) ≡ slice_get xs i

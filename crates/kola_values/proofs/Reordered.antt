@@ -11,9 +11,9 @@ use Rattle.kola_values.specs.Types.{TypeTree, TInt, TStr, TBool, TUnit, TClass, 
 use Rattle.kola_values.specs.Order.{same}
 use Rattle.kola_values.specs.Sets.{any, has, Each}
 use Rattle.kola_values.specs.Databases.{Object, Classes, Objects, look_up, value_or_unit, objects_of, attribute_of, HasType, HaveTypes}
-use Rattle.kola_values.specs.Meets.{FitsClass, NoneTwice, object_values, agree_on, Meets}
+use Rattle.kola_schema.specs.Meets.{FitsClass, NoneTwice, object_values, agree_on, Meets}
 use Rattle.kola_values.proofs.Anys.{any_map, any_filter, each_from, equal, same_itself, same_comm}
-use Rattle.kola_values.proofs.NameTests.{both_false}
+use Rattle.kola_values.proofs.Truth.{both_false}
 
 -- ---- tests
 

@@ -13,10 +13,10 @@ use Rattle.kola_values.specs.Values.{VObj}
 use Rattle.kola_values.specs.Order.{cmp, name_cmp}
 use Rattle.kola_values.specs.Sets.{Rising}
 use Rattle.kola_values.specs.Databases.{Object, objects_of}
-use Rattle.kola_values.specs.Meets.{object_values}
-use Rattle.kola_values.specs.ObjectViews.{object_tree}
-use Rattle.kola_values.specs.declared.object.ObjectDef.{ObjectDef}
-use Rattle.kola_values.proofs.Stored.{object_value, object_values_seen}
+use Rattle.kola_schema.specs.Meets.{object_values}
+use Rattle.kola_database.specs.ObjectViews.{object_tree}
+use Rattle.kola_database.specs.declared.object.ObjectDef.{ObjectDef}
+use Rattle.kola_database.proofs.Stored.{object_value, object_values_seen}
 
 less_down : (o p : Ordering) → ordering_index o ≤ ordering_index p → is_lt p ≡ true → is_lt o ≡ true
 less_down Less p h e = refl

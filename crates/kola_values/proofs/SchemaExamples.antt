@@ -2,7 +2,7 @@
 use Rattle.std.proofs.Common.{◌≡◌, ℕ, true, false, List, [], ◌∷◌, Some, None, codes, refl}
 use Rattle.kola_values.specs.Types.{TypeTree, TInt, TStr, TUnit, TClass, TVar, TSet}
 use Rattle.kola_values.specs.Databases.{Class, Classes, attribute_type, extent_class}
-use Rattle.kola_values.specs.Schemas.{is_schema, extent_named, key_at}
+use Rattle.kola_schema.specs.Schemas.{is_schema, extent_named, key_at}
 
 abbrev pub car_type : TypeTree
 car_type = TSet (TClass (codes "Vehicle"))

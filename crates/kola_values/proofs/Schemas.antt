@@ -10,12 +10,12 @@ use Rattle.kola_values.specs.Types.{TypeTree}
 use Rattle.kola_values.specs.Databases.{Class, Classes, attribute_type, look_up}
 use Rattle.kola_core.specs.NameLists.{is_listed}
 use Rattle.kola_core.proofs.NameLists.{listed_seen}
-use Rattle.kola_values.specs.Schemas.{are_distinct, names_of, class_names, extent_names, is_stored_type, is_key, is_class, is_schema, class_named}
+use Rattle.kola_schema.specs.Schemas.{are_distinct, names_of, class_names, extent_names, is_stored_type, is_key, is_class, is_schema, class_named}
 use Rattle.kola_values.specs.Sets.{Each}
 use Rattle.kola_values.specs.Views.{type_tree, type_entry}
-use Rattle.kola_values.specs.SchemaViews.{class_tree}
+use Rattle.kola_schema.specs.SchemaViews.{class_tree}
 use Rattle.kola_values.specs.declared.ty.Ty.{Ty}
-use Rattle.kola_values.specs.declared.schema.ClassDef.{ClassDef}
+use Rattle.kola_schema.specs.declared.schema.ClassDef.{ClassDef}
 use Rattle.kola_values.proofs.SameTypes.{both_true}
 
 rest_taken : {X : Type 0} (xs : List X) (i : ℕ) → take (length xs - i) (drop i xs) ≡ drop i xs

@@ -10,13 +10,13 @@ use Rattle.std.proofs.lemmas.Map.Keys.{IsDistinct-IsPermutation}
 use Rattle.kola_values.specs.Values.{ValueTree, VObj}
 use Rattle.kola_values.specs.Order.{cmp, same}
 use Rattle.kola_values.specs.Models.Total.{cmp_total}
-use Rattle.kola_values.specs.MeetsTests.{no_two, same_object}
-use Rattle.kola_values.specs.ObjectViews.{object_tree}
-use Rattle.kola_values.specs.declared.object.ObjectDef.{ObjectDef}
-use Rattle.kola_values.proofs.KeyLoops.{no_two_seen}
+use Rattle.kola_database.specs.MeetsTests.{no_two, same_object}
+use Rattle.kola_database.specs.ObjectViews.{object_tree}
+use Rattle.kola_database.specs.declared.object.ObjectDef.{ObjectDef}
+use Rattle.kola_database.proofs.KeyLoops.{no_two_seen}
 use Rattle.kola_values.proofs.Anys.{bool_same}
 use Rattle.kola_values.proofs.SameTypes.{and_true, both_true}
-use Rattle.kola_values.proofs.NameTests.{both_false, not_true}
+use Rattle.kola_values.proofs.Truth.{both_false, not_true}
 
 -- ---- the order of the elements does not tell
 

@@ -11,22 +11,22 @@ use Rattle.kola_values.specs.Values.{ValueTree, VObj}
 use Rattle.kola_values.specs.Order.{cmp, same}
 use Rattle.kola_values.specs.Sets.{Rising, Each, any, has, canon}
 use Rattle.kola_values.specs.Databases.{Object, Classes, Objects, look_up, value_or_unit, extent_class, objects_of, attribute_of}
-use Rattle.kola_values.specs.Meets.{NoneTwice, object_values, FitsClass}
-use Rattle.kola_values.specs.Stored.{extents_of, attributes_of, object_named, attribute_in}
-use Rattle.kola_values.specs.Schemas.{extent_names, are_distinct, names_of}
+use Rattle.kola_schema.specs.Meets.{NoneTwice, object_values, FitsClass}
+use Rattle.kola_database.specs.Stored.{extents_of, attributes_of, object_named, attribute_in}
+use Rattle.kola_schema.specs.Schemas.{extent_names, are_distinct, names_of}
 use Rattle.kola_values.specs.Views.{value_tree, value_entry}
-use Rattle.kola_values.specs.ObjectViews.{object_tree}
-use Rattle.kola_values.specs.ExtentViews.{extent_entry, extent_labels, filled}
+use Rattle.kola_database.specs.ObjectViews.{object_tree}
+use Rattle.kola_database.specs.ExtentViews.{extent_entry, extent_labels, filled}
 use Rattle.kola_values.specs.declared.value.Value.{Value}
-use Rattle.kola_values.specs.declared.object.ObjectDef.{ObjectDef}
-use Rattle.kola_values.specs.declared.db.Extent.{Extent}
+use Rattle.kola_database.specs.declared.object.ObjectDef.{ObjectDef}
+use Rattle.kola_database.specs.declared.db.Extent.{Extent}
 use Rattle.kola_values.proofs.Anys.{any_map, any_filter, equal, canon_rising}
 use Rattle.kola_values.proofs.SameTypes.{name_itself}
 use Rattle.kola_values.proofs.Merging.{rising_filter}
-use Rattle.kola_values.proofs.Schemas.{choose}
-use Rattle.kola_values.proofs.Places.{found_at_place}
-use Rattle.kola_values.proofs.Making.{sorted_rises}
-use Rattle.kola_values.proofs.Reordered.{distinct_reordered}
+use Rattle.kola_schema.proofs.Schemas.{choose}
+use Rattle.kola_schema.proofs.Places.{found_at_place}
+use Rattle.kola_database.proofs.Rises.{sorted_rises}
+use Rattle.kola_database.proofs.Reordered.{distinct_reordered}
 
 -- ---- objects
 

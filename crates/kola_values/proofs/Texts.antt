@@ -4,7 +4,7 @@ use Rattle.std.proofs.lemmas.List.{append_assoc, append-nil}
 use Rattle.kola_core.proofs.Lists.{taken_more}
 use Rattle.kola_values.specs.Values.{ValueTree, of_items, of_fields}
 use Rattle.kola_values.specs.Types.{TypeTree, of_type_fields}
-use Rattle.kola_values.specs.Spelling.{value_spelling, further_members, further_fields, type_spelling, further_field_types}
+use Rattle.kola_canon.specs.Spelling.{value_spelling, further_members, further_fields, type_spelling, further_field_types}
 
 pub further_members_push : (us : List ValueTree) (u : ValueTree) → further_members (of_items (us ++ u ∷ [])) ≡ further_members (of_items us) ++ (codes ", " ++ value_spelling u)
 further_members_push [] u = append-nil (codes ", " ++ value_spelling u)

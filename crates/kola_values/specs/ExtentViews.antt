@@ -2,9 +2,9 @@
 use Rattle.std.specs.Prelude.{ℕ, true, List, ◌≡◌, map}
 use Rattle.kola_values.specs.Sets.{Rising, Each, canon}
 use Rattle.kola_values.specs.Databases.{Class, Object, Classes, Objects, objects_of}
-use Rattle.kola_values.specs.Meets.{object_values}
-use Rattle.kola_values.specs.Schemas.{are_distinct, names_of}
-use Rattle.kola_values.specs.declared.db.Extent.{Extent}
+use Rattle.kola_schema.specs.Meets.{object_values}
+use Rattle.kola_schema.specs.Schemas.{are_distinct, names_of}
+use Rattle.kola_database.specs.declared.db.Extent.{Extent}
 
 -- the name of an extent with its class
 abbrev pub extent_entry : Extent → List ℕ × List ℕ

@@ -6,7 +6,7 @@ use Rattle.std.specs.Ordering.{is_eq}
 use Rattle.kola_values.specs.Values.{ValueTree, VObj}
 use Rattle.kola_values.specs.Order.{cmp}
 use Rattle.kola_values.specs.Databases.{Class, Object, Classes, Objects, look_up, value_or_unit}
-use Rattle.kola_values.specs.Schemas.{class_named}
+use Rattle.kola_schema.specs.Schemas.{class_named}
 
 -- the attribute of an object
 abbrev pub value_at_name : Object → List ℕ → ValueTree

@@ -6,7 +6,7 @@ use Rattle.kola_values.specs.Types.{TypeTree, TClass}
 use Rattle.kola_values.specs.Sets.{Each, has}
 use Rattle.kola_values.specs.Databases.{Class, Object, Classes, Objects, look_up, value_or_unit, attribute_type, attribute_of, HasType}
 use Rattle.kola_core.specs.NameLists.{is_listed}
-use Rattle.kola_values.specs.Schemas.{are_distinct, names_of, class_named, key_at}
+use Rattle.kola_schema.specs.Schemas.{are_distinct, names_of, class_named, key_at}
 
 -- an object has exactly the attributes of its class, each once and with a value of its type, and an id of 1 to 4294967295
 pub record FitsClass (S : Classes) (d : Objects) (o : Object) : Type 0 where

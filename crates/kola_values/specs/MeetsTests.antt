@@ -9,8 +9,8 @@ use Rattle.kola_values.specs.Sets.{Each, has}
 use Rattle.kola_values.specs.WellFormed.{WellFormed}
 use Rattle.kola_values.specs.Databases.{Class, Object, Classes, Objects, look_up, value_or_unit}
 use Rattle.kola_core.specs.NameLists.{is_listed}
-use Rattle.kola_values.specs.Schemas.{are_distinct, names_of, class_named}
-use Rattle.kola_values.specs.Meets.{object_values}
+use Rattle.kola_schema.specs.Schemas.{are_distinct, names_of, class_named}
+use Rattle.kola_schema.specs.Meets.{object_values}
 
 abbrev mutual
   -- v is a value of the type, where `there` says whether there is an object of a class and an id

@@ -4,7 +4,7 @@ use Rattle.kola_values.specs.Databases.{Class}
 use Rattle.kola_values.specs.Types.{TypeTree}
 use Rattle.kola_values.specs.Views.{type_tree}
 use Rattle.kola_values.specs.declared.ty.Ty.{Ty}
-use Rattle.kola_values.specs.declared.schema.ClassDef.{ClassDef}
+use Rattle.kola_schema.specs.declared.schema.ClassDef.{ClassDef}
 
 abbrev pub class_tree : ClassDef → Class
 class_tree c = record { name = c.name; extent = c.extent; attributes = c.attributes; keys = c.keys }

@@ -4,8 +4,8 @@ use Rattle.kola_values.specs.Values.{ValueTree, VObj}
 use Rattle.kola_values.specs.Order.{same}
 use Rattle.kola_values.specs.Sets.{canon}
 use Rattle.kola_values.specs.Databases.{Class, Object, Classes, Objects, look_up, objects_of}
-use Rattle.kola_values.specs.Schemas.{names_of}
-use Rattle.kola_values.specs.Meets.{Meets}
+use Rattle.kola_schema.specs.Schemas.{names_of}
+use Rattle.kola_schema.specs.Meets.{Meets}
 
 -- the objects, the name of each extent with its class, and the names of the attributes of that class
 pub record Database : Type 0 where

@@ -5,12 +5,12 @@ ghost use Rattle.kola_values.specs.Values.{VObj};
 ghost use Rattle.kola_values.specs.Order.{cmp};
 ghost use Rattle.kola_values.specs.Sets.{Rising, has};
 ghost use Rattle.kola_values.specs.Databases.{objects_of, look_up};
-ghost use Rattle.kola_values.specs.Meets.{Meets, object_values};
-ghost use Rattle.kola_values.specs.Schemas.{are_distinct, names_of};
-ghost use Rattle.kola_values.specs.Stored.{IsUnder, extent_in, extent_at, object_named, attribute_in, attribute_at};
+ghost use Rattle.kola_schema.specs.Meets.{Meets, object_values};
+ghost use Rattle.kola_schema.specs.Schemas.{are_distinct, names_of};
+ghost use Rattle.kola_database.specs.Stored.{IsUnder, extent_in, extent_at, object_named, attribute_in, attribute_at};
 ghost use Rattle.kola_values.specs.Views.{value_at};
-ghost use Rattle.kola_values.specs.ObjectViews.{object_tree, object_at};
-ghost use Rattle.kola_values.specs.ExtentViews.{filled};
+ghost use Rattle.kola_database.specs.ObjectViews.{object_tree, object_at};
+ghost use Rattle.kola_database.specs.ExtentViews.{filled};
 
 use crate::entries::entry_named;
 use crate::{ObjectDef, Schema, Set, Ty, Value};
@@ -211,7 +211,7 @@ pub struct Db {
 
 impl Model for Db {
     ghost use Rattle.std.specs.Coded.{codes};
-    ghost use Rattle.kola_values.specs.Stored.{Database};
+    ghost use Rattle.kola_database.specs.Stored.{Database};
     ghost use Rattle.kola_values.specs.Models.Total.{value_code};
 
     ghost Value = { Database };
@@ -219,8 +219,8 @@ impl Model for Db {
     ghost coded = { Prim.hlevel (codes, value_code) };
 
     ghost use Rattle.std.specs.Prelude.{map};
-    ghost use Rattle.kola_values.specs.ObjectViews.{object_tree};
-    ghost use Rattle.kola_values.specs.ExtentViews.{extent_entry, extent_labels, IsStored};
+    ghost use Rattle.kola_database.specs.ObjectViews.{object_tree};
+    ghost use Rattle.kola_database.specs.ExtentViews.{extent_entry, extent_labels, IsStored};
 
     ghost view = { λ a. record {
       objects = map object_tree a.objects.items;

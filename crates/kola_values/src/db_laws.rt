@@ -2,8 +2,8 @@
 ghost use Rattle.std.specs.Prelude.{◌≡◌, ℕ, List, IsPermutation};
 ghost use Rattle.kola_values.specs.Values.{VObj};
 ghost use Rattle.kola_values.specs.Databases.{Classes, Objects, look_up, value_or_unit, extent_class, attribute_of};
-ghost use Rattle.kola_values.specs.Meets.{Meets};
-ghost use Rattle.kola_values.specs.Stored.{extents_of, attribute_in};
+ghost use Rattle.kola_schema.specs.Meets.{Meets};
+ghost use Rattle.kola_database.specs.Stored.{extents_of, attribute_in};
 
 /// The attribute that is found by class and id is the one that a query means. The extent of a name is the extent of the same class as in
 /// the schema. And whether objects meet a schema does not depend on their order.

@@ -6,7 +6,7 @@ ghost use Rattle.kola_values.specs.Order.{cmp};
 ghost use Rattle.kola_values.specs.Sets.{Each, set_of};
 ghost use Rattle.kola_values.specs.Databases.{Objects, HasType};
 ghost use Rattle.kola_values.specs.WellFormed.{WellFormed, WellFormedFields};
-ghost use Rattle.kola_values.specs.Encoding.{enc, enc_fields, enc_type, enc_field_types, dec, dec_fields, Shaped};
+ghost use Rattle.kola_canon.specs.Encoding.{enc, enc_fields, enc_type, enc_field_types, dec, dec_fields, Shaped};
 ghost use Rattle.kola_values.specs.Views.{type_tree, type_entry, value_tree, value_entry};
 
 use crate::{Set, Ty, Value, ValueFields};

@@ -3,7 +3,7 @@ ghost use Rattle.std.specs.Prelude.{◌≡◌, map};
 ghost use Rattle.std.specs.List.{find, list_any};
 ghost use Rattle.std.specs.Option.{option_copied};
 ghost use Rattle.std.specs.Str.{bytes_eq};
-ghost use Rattle.kola_values.specs.Schemas.{are_distinct};
+ghost use Rattle.kola_schema.specs.Schemas.{are_distinct};
 
 use kola_core::Name;
 

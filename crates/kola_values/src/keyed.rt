@@ -3,11 +3,11 @@ ghost use Rattle.std.specs.Prelude.{◌≡◌, ◌++◌, map, IfOk, OnOk};
 ghost use Rattle.std.specs.Cmp.Lexicographic.{slice_cmp};
 ghost use Rattle.kola_values.specs.Values.{VObj};
 ghost use Rattle.kola_values.specs.Order.{cmp};
-ghost use Rattle.kola_values.specs.MeetsTests.{keys_are_met};
-ghost use Rattle.kola_values.specs.Schemas.{class_named};
-ghost use Rattle.kola_values.specs.KeyedObjects.{value_at_name, keyed_from, all_keyed, keyed_objects, cmp_keyed};
-ghost use Rattle.kola_values.specs.ObjectViews.{object_tree};
-ghost use Rattle.kola_values.specs.KeyedViews.{keyed_tree};
+ghost use Rattle.kola_database.specs.MeetsTests.{keys_are_met};
+ghost use Rattle.kola_schema.specs.Schemas.{class_named};
+ghost use Rattle.kola_database.specs.KeyedObjects.{value_at_name, keyed_from, all_keyed, keyed_objects, cmp_keyed};
+ghost use Rattle.kola_database.specs.ObjectViews.{object_tree};
+ghost use Rattle.kola_database.specs.KeyedViews.{keyed_tree};
 
 use crate::meets::value_of;
 use crate::{ObjectDef, Schema, Value, cmp_values};

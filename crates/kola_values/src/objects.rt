@@ -6,10 +6,10 @@ ghost use Rattle.std.specs.List.{list_any, list_all};
 ghost use Rattle.kola_values.specs.Values.{VObj, of_fields};
 ghost use Rattle.kola_values.specs.Types.{of_type_fields};
 ghost use Rattle.kola_values.specs.Order.{cmp, same};
-ghost use Rattle.kola_values.specs.Encoding.{Shaped};
-ghost use Rattle.kola_values.specs.MeetsTests.{typed_by, fields_typed_by, is_there, anything, no_two, same_object};
+ghost use Rattle.kola_values.specs.Shapes.{Shaped};
+ghost use Rattle.kola_database.specs.MeetsTests.{typed_by, fields_typed_by, is_there, anything, no_two, same_object};
 ghost use Rattle.kola_values.specs.Views.{type_tree, type_entry, value_tree, value_entry};
-ghost use Rattle.kola_values.specs.ObjectViews.{object_tree};
+ghost use Rattle.kola_database.specs.ObjectViews.{object_tree};
 
 use crate::db::{cmp_object, cmp_objects};
 use crate::{ObjectDef, Ty, Value};

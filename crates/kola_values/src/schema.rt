@@ -6,9 +6,9 @@ ghost use Rattle.std.specs.Str.{bytes_eq};
 ghost use Rattle.kola_core.specs.NameLists.{is_listed};
 ghost use Rattle.kola_values.specs.Databases.{attribute_type, extent_class, look_up};
 ghost use Rattle.kola_values.specs.Sets.{Each};
-ghost use Rattle.kola_values.specs.Schemas.{are_distinct, names_of, class_names, extent_names, is_stored_type, is_key, is_class, is_schema, class_named, extent_named, key_at};
+ghost use Rattle.kola_schema.specs.Schemas.{are_distinct, names_of, class_names, extent_names, is_stored_type, is_key, is_class, is_schema, class_named, extent_named, key_at};
 ghost use Rattle.kola_values.specs.Views.{type_tree};
-ghost use Rattle.kola_values.specs.SchemaViews.{class_tree, class_at, type_at};
+ghost use Rattle.kola_schema.specs.SchemaViews.{class_tree, class_at, type_at};
 
 use crate::entries::{has_label, labels_are_distinct};
 use crate::{Fields, Ty};
@@ -181,8 +181,8 @@ impl Model for IndexedClass {
     ghost coded = { Prim.hlevel (codes, type_code) };
 
     ghost use Rattle.std.specs.Prelude.{◌≡◌};
-    ghost use Rattle.kola_values.specs.Schemas.{names_of};
-    ghost use Rattle.kola_values.specs.SchemaViews.{class_tree};
+    ghost use Rattle.kola_schema.specs.Schemas.{names_of};
+    ghost use Rattle.kola_schema.specs.SchemaViews.{class_tree};
 
     ghost view = { λ a. class_tree a.class };
 
@@ -260,7 +260,7 @@ impl Model for Schema {
     ghost coded = { Prim.hlevel (codes, type_code) };
 
     ghost use Rattle.std.specs.Prelude.{true, ◌≡◌};
-    ghost use Rattle.kola_values.specs.Schemas.{is_schema, class_names, extent_names};
+    ghost use Rattle.kola_schema.specs.Schemas.{is_schema, class_names, extent_names};
 
     ghost view = { λ a. a.classes.items };
 

@@ -1,7 +1,7 @@
 //! A law of the tests by which a list of classes is a schema.
 ghost use Rattle.std.specs.Prelude.{◌≡◌, ◌≢◌, ◌↔◌, ℕ, List, true, AllPairs, Contains};
 ghost use Rattle.kola_core.specs.NameLists.{is_listed};
-ghost use Rattle.kola_values.specs.Schemas.{are_distinct};
+ghost use Rattle.kola_schema.specs.Schemas.{are_distinct};
 
 /// The test whether a name is listed answers true exactly where it is an entry of the list, and the test whether names are distinct exactly
 /// where no two entries are the same.

@@ -5,7 +5,7 @@ ghost use Rattle.std.specs.List.{flat_map};
 ghost use Rattle.kola_values.specs.Types.{of_type_fields};
 ghost use Rattle.kola_values.specs.Values.{VSet, of_items, of_fields};
 ghost use Rattle.kola_values.specs.Views.{type_tree, type_entry, value_tree, value_entry};
-ghost use Rattle.kola_values.specs.Spelling.{escaped, quoted, truth, value_spelling, members_spelling, further_members, fields_spelling, further_fields, type_spelling, field_types_spelling, further_field_types};
+ghost use Rattle.kola_canon.specs.Spelling.{escaped, quoted, truth, value_spelling, members_spelling, further_members, fields_spelling, further_fields, type_spelling, field_types_spelling, further_field_types};
 
 use crate::{Set, Ty, Value};
 use itoa::Buffer;

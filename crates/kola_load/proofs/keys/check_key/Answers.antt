@@ -3,8 +3,8 @@ use Rattle.std.specs.Str.{bytes_eq}
 use Rattle.std.specs.BTreeMap as tree
 use Rattle.kola_core.proofs.Lists.{taken_more}
 use Rattle.kola_values.specs.Databases.{Class, Object}
-use Rattle.kola_values.specs.Schemas.{names_of}
-use Rattle.kola_values.specs.ObjectViews.{object_tree}
+use Rattle.kola_schema.specs.Schemas.{names_of}
+use Rattle.kola_database.specs.ObjectViews.{object_tree}
 use Rattle.kola_load.specs.KeyViews.{key_tree, key_cmp, value_at_place}
 use Rattle.kola_load.specs.Loading.{repeat_fault}
 use Rattle.kola_load.specs.declared.fault.DbFault.TheVariants.{KeyRepeats}

@@ -1,11 +1,11 @@
 use Rattle.std.proofs.Common.{◌≡◌, ◌++◌, ◌∷◌, [], ap, ◌∙◌, sym, map}
 use Rattle.kola_core.proofs.Lists.{taken_more}
 use Rattle.kola_values.specs.Databases.{objects_of}
-use Rattle.kola_values.specs.Schemas.{names_of}
-use Rattle.kola_values.specs.ObjectViews.{object_tree}
-use Rattle.kola_values.specs.ExtentViews.{extent_of, filled}
-use Rattle.kola_values.proofs.Schemas.{attribute_names_seen}
-use Rattle.kola_values.proofs.db.extents_of.Goals as goal
+use Rattle.kola_schema.specs.Schemas.{names_of}
+use Rattle.kola_database.specs.ObjectViews.{object_tree}
+use Rattle.kola_database.specs.ExtentViews.{extent_of, filled}
+use Rattle.kola_schema.proofs.Schemas.{attribute_names_seen}
+use Rattle.kola_database.proofs.db.extents_of.Goals as goal
 
 pub loop-class-preserved : goal.loop-class-preserved
 loop-class-preserved c =

@@ -1,7 +1,7 @@
 use Rattle.std.proofs.Common.{◌++◌, ◌∷◌, [], ◌∙◌, sym, refl}
 use Rattle.kola_core.proofs.Lists.{taken_more}
-use Rattle.kola_values.specs.Schemas.{names_of}
-use Rattle.kola_values.proofs.db.labels_of.Goals as goal
+use Rattle.kola_schema.specs.Schemas.{names_of}
+use Rattle.kola_database.proofs.db.labels_of.Goals as goal
 
 pub loop-entry-preserved : goal.loop-entry-preserved
 loop-entry-preserved c =

@@ -5,9 +5,9 @@ use Rattle.kola_values.specs.Values.{VObj}
 use Rattle.kola_values.specs.Sets.{Rising}
 use Rattle.kola_values.specs.Databases.{objects_of}
 use Rattle.kola_values.specs.Views.{value_tree}
-use Rattle.kola_values.specs.ObjectViews.{object_tree}
-use Rattle.kola_values.proofs.Stored.{object_value, object_values_seen, class_rises}
-use Rattle.kola_values.proofs.db.members_of.Goals as goal
+use Rattle.kola_database.specs.ObjectViews.{object_tree}
+use Rattle.kola_database.proofs.Stored.{object_value, object_values_seen, class_rises}
+use Rattle.kola_database.proofs.db.members_of.Goals as goal
 
 pub loop-object-preserved : goal.loop-object-preserved
 loop-object-preserved c =

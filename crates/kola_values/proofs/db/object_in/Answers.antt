@@ -4,10 +4,10 @@ use Rattle.std.proofs.lemmas.Fn.{always_returns_same}
 use Rattle.kola_values.specs.Values.{VObj}
 use Rattle.kola_values.specs.Order.{cmp}
 use Rattle.kola_values.specs.Sets.{Rising}
-use Rattle.kola_values.specs.ObjectViews.{object_tree}
+use Rattle.kola_database.specs.ObjectViews.{object_tree}
 use Rattle.kola_values.proofs.Making.{found, first_at_place, none_found}
-use Rattle.kola_values.proofs.Stored.{object_value, object_values_seen, object_found}
-use Rattle.kola_values.proofs.db.object_in.Goals as goal
+use Rattle.kola_database.proofs.Stored.{object_value, object_values_seen, object_found}
+use Rattle.kola_database.proofs.db.object_in.Goals as goal
 
 pub returns-in-Ok : goal.returns-in-Ok
 returns-in-Ok c =

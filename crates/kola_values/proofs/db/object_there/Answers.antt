@@ -1,7 +1,7 @@
 use Rattle.std.proofs.Common.{◌∙◌, sym, ap, arith}
 use Rattle.std.specs.Ordering.{is_eq}
 use Rattle.kola_values.proofs.Numbered.{object_placed}
-use Rattle.kola_values.proofs.db.object_there.Goals as goal
+use Rattle.kola_database.proofs.db.object_there.Goals as goal
 
 pub returns-then-is_eq : goal.returns-then-is_eq
 returns-then-is_eq c =

@@ -5,11 +5,11 @@ use Rattle.std.specs.List.Sorted.{IsPartitionedBy}
 use Rattle.std.proofs.lemmas.Fn.{always_returns_same}
 use Rattle.std.proofs.lemmas.List.{take_all, length-drop}
 use Rattle.kola_values.specs.Order.{name_cmp}
-use Rattle.kola_values.specs.Meets.{object_values}
-use Rattle.kola_values.specs.ObjectViews.{object_tree}
-use Rattle.kola_values.specs.declared.object.ObjectDef.{ObjectDef}
-use Rattle.kola_values.proofs.Runs.{less_parted, equal_parted, run_is, of_class, classes_rise, kept_objects}
-use Rattle.kola_values.proofs.db.run_of.Goals as goal
+use Rattle.kola_schema.specs.Meets.{object_values}
+use Rattle.kola_database.specs.ObjectViews.{object_tree}
+use Rattle.kola_database.specs.declared.object.ObjectDef.{ObjectDef}
+use Rattle.kola_database.proofs.Runs.{less_parted, equal_parted, run_is, of_class, classes_rise, kept_objects}
+use Rattle.kola_database.proofs.db.run_of.Goals as goal
 
 pub returns : goal.returns
 returns c =

@@ -2,8 +2,8 @@ use Rattle.std.proofs.Common.{◌++◌, ◌∷◌, [], map, ap, ◌∙◌, sym, 
 use Rattle.kola_core.specs.NameLists.{is_listed, with_name}
 use Rattle.kola_core.proofs.Lists.{taken_more}
 use Rattle.kola_core.proofs.NameLists.{with_new}
-use Rattle.kola_values.proofs.Places.{fresh}
-use Rattle.kola_values.proofs.db.table_of.Goals as goal
+use Rattle.kola_schema.proofs.Places.{fresh}
+use Rattle.kola_database.proofs.db.table_of.Goals as goal
 
 pub loop-extent-preserved : goal.loop-extent-preserved
 loop-extent-preserved c =

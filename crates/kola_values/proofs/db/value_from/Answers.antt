@@ -1,9 +1,9 @@
 use Rattle.std.proofs.Common.{rules, ◌∙◌, ap, sym}
 use Rattle.kola_values.specs.Databases.{look_up}
 use Rattle.kola_values.specs.Views.{value_entry}
-use Rattle.kola_values.proofs.Stored.{value_found}
+use Rattle.kola_database.proofs.Stored.{value_found}
 use Rattle.kola_values.proofs.Numbered.{first_of_name}
-use Rattle.kola_values.proofs.db.value_from.Goals as goal
+use Rattle.kola_database.proofs.db.value_from.Goals as goal
 
 pub returns-then-is : goal.returns-then-is
 returns-then-is c =

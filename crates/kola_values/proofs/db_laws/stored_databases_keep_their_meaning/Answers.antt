@@ -1,6 +1,6 @@
-use Rattle.kola_values.proofs.Reordered.{meets_reordered}
-use Rattle.kola_values.proofs.Stored.{attribute_meant, extent_meant}
-use Rattle.kola_values.proofs.db_laws.stored_databases_keep_their_meaning.Goals as goal
+use Rattle.kola_database.proofs.Reordered.{meets_reordered}
+use Rattle.kola_database.proofs.Stored.{attribute_meant, extent_meant}
+use Rattle.kola_database.proofs.db_laws.stored_databases_keep_their_meaning.Goals as goal
 
 pub returns-clause-attributes : goal.returns-clause-attributes
 returns-clause-attributes c = attribute_meant

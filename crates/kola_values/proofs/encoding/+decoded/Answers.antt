@@ -4,14 +4,14 @@ use Rattle.kola_values.specs.Types.{of_type_fields}
 use Rattle.kola_values.specs.Values.{VSet, VEnd, of_items, fields}
 use Rattle.kola_values.specs.Sets.{Rising, Each}
 use Rattle.kola_values.specs.WellFormed.{WellFormed, WellFormedFields}
-use Rattle.kola_values.specs.Encoding.{dec, dec_fields}
+use Rattle.kola_canon.specs.Encoding.{dec, dec_fields}
 use Rattle.kola_values.specs.Views.{type_tree, type_entry, value_tree}
 use Rattle.kola_values.specs.Models.Weights.{type_weight}
 use Rattle.kola_core.proofs.Lists.{length_seen}
 use Rattle.kola_values.proofs.Loops.{type_entry_falls}
-use Rattle.kola_values.proofs.EncodingLoops.{made_more, made_well_formed}
-use Rattle.kola_values.proofs.EncodingBack.{all_done, field_done, last_decoded, one_more_decoded, none_decoded, no_pair, set_decoded, parts_of_set}
-use Rattle.kola_values.proofs.encoding.+decoded.Goals as goal
+use Rattle.kola_canon.proofs.EncodingLoops.{made_more, made_well_formed}
+use Rattle.kola_canon.proofs.EncodingBack.{all_done, field_done, last_decoded, one_more_decoded, none_decoded, no_pair, set_decoded, parts_of_set}
+use Rattle.kola_canon.proofs.encoding.+decoded.Goals as goal
 
 pub decoded-decoded_members-requires : goal.decoded-decoded_members-requires
 decoded-decoded_members-requires t c =

@@ -3,9 +3,9 @@ use Rattle.kola_values.specs.Types.{of_type_fields}
 use Rattle.kola_values.specs.Values.{fields}
 use Rattle.kola_values.specs.Views.{value_tree, type_tree, type_entry}
 use Rattle.kola_values.specs.WellFormed.{WellFormedFields}
-use Rattle.kola_values.specs.Encoding.{dec, dec_fields}
+use Rattle.kola_canon.specs.Encoding.{dec, dec_fields}
 use Rattle.kola_values.specs.Models.Weights.{type_weight, types_weight}
-use Rattle.kola_values.proofs.encoding.+decoded.Given as goal
+use Rattle.kola_canon.proofs.encoding.+decoded.Given as goal
 
 abbrev pub decreases-decoded : goal.decreases-decoded
 decreases-decoded l = 2 * type_weight (type_tree l.t.now)

@@ -1,11 +1,11 @@
 use Rattle.std.proofs.Common.{◌≡◌, ◌+◌, ◌-◌, map, length, refl, sym, ap, ap₂, ◌∙◌, drop, arith}
 use Rattle.kola_values.specs.Types.{TPair, of_type_fields}
-use Rattle.kola_values.specs.Encoding.{enc_type, enc_field_types}
+use Rattle.kola_canon.specs.Encoding.{enc_type, enc_field_types}
 use Rattle.kola_values.specs.Views.{type_tree, type_entry}
 use Rattle.kola_values.specs.Models.Weights.{type_weight}
 use Rattle.kola_values.proofs.Loops.{type_entry_falls}
-use Rattle.kola_values.proofs.EncodingLoops.{one_more_type}
-use Rattle.kola_values.proofs.encoding.+encode_type.Goals as goal
+use Rattle.kola_canon.proofs.EncodingLoops.{one_more_type}
+use Rattle.kola_canon.proofs.encoding.+encode_type.Goals as goal
 
 pub encode_field_types-encode_type-requires : goal.encode_field_types-encode_type-requires
 encode_field_types-encode_type-requires t c =

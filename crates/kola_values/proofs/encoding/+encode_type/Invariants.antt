@@ -1,9 +1,9 @@
 use Rattle.std.proofs.Common.{◌≡◌, ◌<◌, length, map, drop}
 use Rattle.kola_values.specs.Types.{of_type_fields}
 use Rattle.kola_values.specs.Views.{type_tree, type_entry}
-use Rattle.kola_values.specs.Encoding.{enc_field_types}
+use Rattle.kola_canon.specs.Encoding.{enc_field_types}
 use Rattle.kola_values.specs.Models.Weights.{type_weight, types_weight}
-use Rattle.kola_values.proofs.encoding.+encode_type.Given as goal
+use Rattle.kola_canon.proofs.encoding.+encode_type.Given as goal
 
 abbrev pub decreases-encode_type : goal.decreases-encode_type
 decreases-encode_type l = type_weight (type_tree l.t.now)

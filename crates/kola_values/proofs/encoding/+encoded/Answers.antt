@@ -2,13 +2,13 @@ use Rattle.std.proofs.Common.{◌≡◌, ◌+◌, ◌-◌, map, length, refl, sy
 use Rattle.kola_values.specs.Values.{VPair, VSet, of_items, of_fields}
 use Rattle.kola_values.specs.Sets.{Rising, Each}
 use Rattle.kola_values.specs.WellFormed.{WellFormed}
-use Rattle.kola_values.specs.Encoding.{enc, enc_fields}
+use Rattle.kola_canon.specs.Encoding.{enc, enc_fields}
 use Rattle.kola_values.specs.Views.{value_tree, value_entry}
 use Rattle.kola_values.specs.Models.Weights.{weight, members_weight}
 use Rattle.kola_values.proofs.Loops.{member_falls, value_entry_falls}
-use Rattle.kola_values.proofs.EncodingOrder.{enc_members-of_items}
-use Rattle.kola_values.proofs.EncodingLoops.{one_more_value, value_well_formed, made_more, made_well_formed, set_parts}
-use Rattle.kola_values.proofs.encoding.+encoded.Goals as goal
+use Rattle.kola_canon.proofs.EncodingOrder.{enc_members-of_items}
+use Rattle.kola_canon.proofs.EncodingLoops.{one_more_value, value_well_formed, made_more, made_well_formed, set_parts}
+use Rattle.kola_canon.proofs.encoding.+encoded.Goals as goal
 
 pub encoded-encoded_members-requires : goal.encoded-encoded_members-requires
 encoded-encoded_members-requires t c =

@@ -1,9 +1,9 @@
 use Rattle.std.proofs.Common.{◌≡◌, ◌<◌, length, map, take, drop}
 use Rattle.kola_values.specs.Values.{of_items, of_fields}
 use Rattle.kola_values.specs.Views.{value_tree, value_entry}
-use Rattle.kola_values.specs.Encoding.{enc, enc_fields}
+use Rattle.kola_canon.specs.Encoding.{enc, enc_fields}
 use Rattle.kola_values.specs.Models.Weights.{weight, members_weight, fields_weight}
-use Rattle.kola_values.proofs.encoding.+encoded.Given as goal
+use Rattle.kola_canon.proofs.encoding.+encoded.Given as goal
 
 abbrev pub decreases-encoded : goal.decreases-encoded
 decreases-encoded l = weight (value_tree l.v.now)

@@ -1,9 +1,9 @@
 use Rattle.std.proofs.Common.{◌≡◌, sym, subst}
 use Rattle.std.proofs.lemmas.Result.{IfOk-weaker}
-use Rattle.kola_values.specs.Encoding.{enc, dec, Shaped}
+use Rattle.kola_canon.specs.Encoding.{enc, dec, Shaped}
 use Rattle.kola_values.specs.Views.{value_tree, type_tree}
-use Rattle.kola_values.proofs.EncodingInverse.{dec_right, well_formed_dec}
-use Rattle.kola_values.proofs.encoding.decode_by.Goals as goal
+use Rattle.kola_canon.proofs.EncodingInverse.{dec_right, well_formed_dec}
+use Rattle.kola_canon.proofs.encoding.decode_by.Goals as goal
 
 pub decoded-requires : goal.decoded-requires
 decoded-requires c = well_formed_dec (type_tree c.args.t.now) (value_tree c.args.v.now) c.requires c.well_formed-2.ensures

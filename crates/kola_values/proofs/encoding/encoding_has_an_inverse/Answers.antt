@@ -1,5 +1,5 @@
-use Rattle.kola_values.proofs.EncodingInverse.{typed_shaped, enc_shaped, dec_enc, dec_right}
-use Rattle.kola_values.proofs.encoding.encoding_has_an_inverse.Goals as goal
+use Rattle.kola_canon.proofs.EncodingInverse.{typed_shaped, enc_shaped, dec_enc, dec_right}
+use Rattle.kola_canon.proofs.encoding.encoding_has_an_inverse.Goals as goal
 
 pub returns : goal.returns
 returns c = record {

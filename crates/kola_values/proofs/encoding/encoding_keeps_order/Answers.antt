@@ -1,5 +1,5 @@
-use Rattle.kola_values.proofs.EncodingOrder.{enc_cmp, enc_exact}
-use Rattle.kola_values.proofs.encoding.encoding_keeps_order.Goals as goal
+use Rattle.kola_canon.proofs.EncodingOrder.{enc_cmp, enc_exact}
+use Rattle.kola_canon.proofs.encoding.encoding_keeps_order.Goals as goal
 
 pub returns : goal.returns
 returns c = record {

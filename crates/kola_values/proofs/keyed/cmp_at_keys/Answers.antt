@@ -1,7 +1,7 @@
 use Rattle.std.proofs.Common.{◌∙◌, sym, arith}
-use Rattle.kola_values.specs.ObjectViews.{object_tree}
-use Rattle.kola_values.proofs.KeyLoops.{keys_equal, keys_unequal, keys_end}
-use Rattle.kola_values.proofs.keyed.cmp_at_keys.Goals as goal
+use Rattle.kola_database.specs.ObjectViews.{object_tree}
+use Rattle.kola_database.proofs.KeyLoops.{keys_equal, keys_unequal, keys_end}
+use Rattle.kola_database.proofs.keyed.cmp_at_keys.Goals as goal
 
 pub returns-in_default : goal.returns-in_default
 returns-in_default c =

@@ -3,15 +3,15 @@ use Rattle.std.specs.List.{IsAllAdjacentAnswer}
 use Rattle.std.specs.Ordering.{is_lt}
 use Rattle.std.proofs.lemmas.Fn.{always_returns_same}
 use Rattle.std.proofs.lemmas.List.Sorted.{ranks_by}
-use Rattle.kola_values.specs.MeetsTests.{no_two}
-use Rattle.kola_values.specs.KeyedObjects.{cmp_keyed, same_keyed}
-use Rattle.kola_values.specs.ObjectViews.{object_tree}
-use Rattle.kola_values.specs.KeyedViews.{keyed_tree}
-use Rattle.kola_values.specs.declared.keyed.Keyed.{Keyed}
-use Rattle.kola_values.proofs.Sorting.{told_by_neighbours, no_two_moved}
-use Rattle.kola_values.proofs.KeyedObjects.{cmp_keyed_total, same_keyed_flips, keyed_apart}
-use Rattle.kola_values.proofs.KeyLoops.{no_two_seen}
-use Rattle.kola_values.proofs.keyed.keys_are_apart.Goals as goal
+use Rattle.kola_database.specs.MeetsTests.{no_two}
+use Rattle.kola_database.specs.KeyedObjects.{cmp_keyed, same_keyed}
+use Rattle.kola_database.specs.ObjectViews.{object_tree}
+use Rattle.kola_database.specs.KeyedViews.{keyed_tree}
+use Rattle.kola_database.specs.declared.keyed.Keyed.{Keyed}
+use Rattle.kola_database.proofs.Sorting.{told_by_neighbours, no_two_moved}
+use Rattle.kola_database.proofs.KeyedObjects.{cmp_keyed_total, same_keyed_flips, keyed_apart}
+use Rattle.kola_database.proofs.KeyLoops.{no_two_seen}
+use Rattle.kola_database.proofs.keyed.keys_are_apart.Goals as goal
 
 pub returns : goal.returns
 returns c =

@@ -1,11 +1,11 @@
 use Rattle.std.proofs.Common.{◌∙◌, sym, ap}
 use Rattle.std.specs.Option.{option_map}
-use Rattle.kola_values.specs.MeetsTests.{clash}
-use Rattle.kola_values.specs.SchemaViews.{class_at}
-use Rattle.kola_values.specs.ObjectViews.{object_tree}
-use Rattle.kola_values.specs.declared.object.ObjectDef.{ObjectDef}
-use Rattle.kola_values.proofs.MeetingLoops.{none_passes}
-use Rattle.kola_values.proofs.meets.clashes.Goals as goal
+use Rattle.kola_database.specs.MeetsTests.{clash}
+use Rattle.kola_schema.specs.SchemaViews.{class_at}
+use Rattle.kola_database.specs.ObjectViews.{object_tree}
+use Rattle.kola_database.specs.declared.object.ObjectDef.{ObjectDef}
+use Rattle.kola_database.proofs.MeetingLoops.{none_passes}
+use Rattle.kola_database.proofs.meets.clashes.Goals as goal
 
 pub returns-in-None : goal.returns-in-None
 returns-in-None c =

@@ -3,11 +3,11 @@ use Rattle.std.specs.List.{list_all}
 use Rattle.std.specs.Prelude.{ltb}
 use Rattle.std.proofs.lemmas.Bool.{lt-ltb, le-ltb}
 use Rattle.kola_values.specs.Databases.{look_up}
-use Rattle.kola_values.specs.Schemas.{are_distinct, names_of}
-use Rattle.kola_values.specs.MeetsTests.{is_value_of, are_typed}
-use Rattle.kola_values.proofs.MeetingLoops.{then_holds, else_fails, distinct_labels, typed_entries, whole_entries}
-use Rattle.kola_values.proofs.meets.fits_class.Goals as goal
-use Rattle.kola_values.proofs.meets.fits_class.Goals.{then-object-gt0, else-object-gt0, then-labels_are_distinct, else-labels_are_distinct}
+use Rattle.kola_schema.specs.Schemas.{are_distinct, names_of}
+use Rattle.kola_database.specs.MeetsTests.{is_value_of, are_typed}
+use Rattle.kola_database.proofs.MeetingLoops.{then_holds, else_fails, distinct_labels, typed_entries, whole_entries}
+use Rattle.kola_database.proofs.meets.fits_class.Goals as goal
+use Rattle.kola_database.proofs.meets.fits_class.Goals.{then-object-gt0, else-object-gt0, then-labels_are_distinct, else-labels_are_distinct}
 
 pub returns-then-are_typed : goal.returns-then-are_typed
 returns-then-are_typed g c =

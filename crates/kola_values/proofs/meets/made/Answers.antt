@@ -5,14 +5,14 @@ use Rattle.std.proofs.lemmas.Fn.{always_returns_same}
 use Rattle.std.proofs.lemmas.List.Sorted.{ranks_by, IsPermutation-map, IsPermutation-sym, IsPermutation-trans}
 use Rattle.kola_values.specs.Order.{cmp}
 use Rattle.kola_values.specs.Sets.{Each}
-use Rattle.kola_values.specs.MeetsTests.{IsHeld, meets}
-use Rattle.kola_values.specs.ObjectViews.{object_tree}
+use Rattle.kola_database.specs.MeetsTests.{IsHeld, meets}
+use Rattle.kola_database.specs.ObjectViews.{object_tree}
 use Rattle.kola_values.specs.Models.Total.{cmp_total}
-use Rattle.kola_values.specs.declared.object.ObjectDef.{ObjectDef}
-use Rattle.kola_values.proofs.Reordered.{meets_reordered}
-use Rattle.kola_values.proofs.Stored.{object_value}
-use Rattle.kola_values.proofs.Meeting.{meets_from, meets_to}
-use Rattle.kola_values.proofs.meets.made.Goals as goal
+use Rattle.kola_database.specs.declared.object.ObjectDef.{ObjectDef}
+use Rattle.kola_database.proofs.Reordered.{meets_reordered}
+use Rattle.kola_database.proofs.Stored.{object_value}
+use Rattle.kola_database.proofs.Meeting.{meets_from, meets_to}
+use Rattle.kola_database.proofs.meets.made.Goals as goal
 
 pub sorted_meet-requires : goal.sorted_meet-requires
 sorted_meet-requires c =

@@ -1,12 +1,12 @@
 use Rattle.std.proofs.Common.{◌≡◌, ◌&&◌, map, sym, ◌∙◌}
 use Rattle.std.proofs.lemmas.List.Folds.{list_all-map}
 use Rattle.kola_values.specs.Databases.{Object}
-use Rattle.kola_values.specs.Schemas.{class_named}
-use Rattle.kola_values.specs.MeetsTests.{is_there, no_two, same_object, fits_class, all_fit}
-use Rattle.kola_values.specs.ObjectViews.{object_tree}
-use Rattle.kola_values.proofs.MeetingLoops.{then_holds, else_fails}
-use Rattle.kola_values.proofs.meets.meets.Goals as goal
-use Rattle.kola_values.proofs.meets.meets.Goals.{then-objects_are_distinct, else-objects_are_distinct}
+use Rattle.kola_schema.specs.Schemas.{class_named}
+use Rattle.kola_database.specs.MeetsTests.{is_there, no_two, same_object, fits_class, all_fit}
+use Rattle.kola_database.specs.ObjectViews.{object_tree}
+use Rattle.kola_database.proofs.MeetingLoops.{then_holds, else_fails}
+use Rattle.kola_database.proofs.meets.meets.Goals as goal
+use Rattle.kola_database.proofs.meets.meets.Goals.{then-objects_are_distinct, else-objects_are_distinct}
 
 pub returns-then-all_fit : goal.returns-then-all_fit
 returns-then-all_fit c =

@@ -1,7 +1,7 @@
 use Rattle.std.proofs.Common.{map, sym, ◌∙◌}
-use Rattle.kola_values.specs.ObjectViews.{object_tree}
-use Rattle.kola_values.proofs.Meeting.{meets_from, meets_to}
-use Rattle.kola_values.proofs.meets.objects_ok.Goals as goal
+use Rattle.kola_database.specs.ObjectViews.{object_tree}
+use Rattle.kola_database.proofs.Meeting.{meets_from, meets_to}
+use Rattle.kola_database.proofs.meets.objects_ok.Goals as goal
 
 pub returns : goal.returns
 returns c =

@@ -2,12 +2,12 @@ use Rattle.std.proofs.Common.{◌≡◌, ◌&&◌, true, false, IfOk, map, ap, r
 use mathlib.Core.Bool.{and-false}
 use Rattle.std.proofs.lemmas.List.Folds.{list_all-map}
 use Rattle.kola_values.specs.Databases.{Object}
-use Rattle.kola_values.specs.Schemas.{class_named}
-use Rattle.kola_values.specs.MeetsTests.{is_there, no_two, same_object, fits_class, all_fit, keys_are_met}
-use Rattle.kola_values.specs.ObjectViews.{object_tree}
+use Rattle.kola_schema.specs.Schemas.{class_named}
+use Rattle.kola_database.specs.MeetsTests.{is_there, no_two, same_object, fits_class, all_fit, keys_are_met}
+use Rattle.kola_database.specs.ObjectViews.{object_tree}
 use Rattle.kola_values.proofs.SameTypes.{and_true}
-use Rattle.kola_values.proofs.MeetingLoops.{then_holds, else_fails}
-use Rattle.kola_values.proofs.meets.sorted_meet.Goals as goal
+use Rattle.kola_database.proofs.MeetingLoops.{then_holds, else_fails}
+use Rattle.kola_database.proofs.meets.sorted_meet.Goals as goal
 
 pub returns-then-not-all_fit : goal.returns-then-not-all_fit
 returns-then-not-all_fit c =

@@ -1,8 +1,8 @@
 use Rattle.std.proofs.Common.{map, refl, rules}
 use Rattle.std.specs.Option.{option_copied}
 use Rattle.kola_values.specs.Views.{type_tree, type_entry}
-use Rattle.kola_values.proofs.MeetingLoops.{entry_found}
-use Rattle.kola_values.proofs.meets.type_of.Goals as goal
+use Rattle.kola_database.proofs.MeetingLoops.{entry_found}
+use Rattle.kola_database.proofs.meets.type_of.Goals as goal
 
 pub returns-in_err-entry : goal.returns-in_err-entry
 returns-in_err-entry c =

@@ -2,12 +2,12 @@ use Rattle.std.proofs.Common.{◌<◌, length, map, refl, sym, ap, ap₂, ◌∙
 use Rattle.kola_core.proofs.Lists.{length_seen}
 use Rattle.kola_values.specs.Values.{VSet, of_items}
 use Rattle.kola_values.specs.Types.{TSet}
-use Rattle.kola_values.specs.MeetsTests.{typed_by}
+use Rattle.kola_database.specs.MeetsTests.{typed_by}
 use Rattle.kola_values.specs.Views.{type_tree, type_entry, value_tree, value_entry}
 use Rattle.kola_values.proofs.Loops.{member_falls, value_entry_falls}
-use Rattle.kola_values.proofs.MeetingLoops.{set_typed, unequal_lengths, typed_more, other_label, other_type}
-use Rattle.kola_values.proofs.objects.+typed.Goals as goal
-use Rattle.kola_values.proofs.objects.+typed.Goals.{are_of_types-then-not-is-via-then-not-is, are_of_types-then-not-is-via-else-not-is+then-not-is_of_type}
+use Rattle.kola_database.proofs.MeetingLoops.{set_typed, unequal_lengths, typed_more, other_label, other_type}
+use Rattle.kola_database.proofs.objects.+typed.Goals as goal
+use Rattle.kola_database.proofs.objects.+typed.Goals.{are_of_types-then-not-is-via-then-not-is, are_of_types-then-not-is-via-else-not-is+then-not-is_of_type}
 
 pub are_of_type-is_of_type-requires : goal.are_of_type-is_of_type-requires
 are_of_type-is_of_type-requires g t c κs within =

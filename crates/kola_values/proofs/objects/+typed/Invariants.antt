@@ -1,11 +1,11 @@
 use Rattle.std.proofs.Common.{◌≡◌, true, take, map}
 use Rattle.std.specs.List.{list_all}
 use Rattle.kola_values.specs.Values.{of_items, of_fields}
-use Rattle.kola_values.specs.MeetsTests.{typed_by}
+use Rattle.kola_database.specs.MeetsTests.{typed_by}
 use Rattle.kola_values.specs.Views.{type_tree, type_entry, value_tree, value_entry}
 use Rattle.kola_values.specs.Models.Weights.{weight, members_weight, fields_weight}
-use Rattle.kola_values.proofs.MeetingLoops.{IsTypedBelow}
-use Rattle.kola_values.proofs.objects.+typed.Given as goal
+use Rattle.kola_database.proofs.MeetingLoops.{IsTypedBelow}
+use Rattle.kola_database.proofs.objects.+typed.Given as goal
 
 abbrev pub decreases-is_of_type : goal.decreases-is_of_type
 decreases-is_of_type g l = weight (value_tree l.v.now)

@@ -1,7 +1,7 @@
 use Rattle.std.proofs.Common.{◌∙◌, ap, ap₂}
 use Rattle.std.specs.Ordering.{is_eq, ordering_then}
 use Rattle.kola_values.specs.Order.{same}
-use Rattle.kola_values.proofs.objects.is_object.Goals as goal
+use Rattle.kola_database.proofs.objects.is_object.Goals as goal
 
 pub returns : goal.returns
 unfolding same

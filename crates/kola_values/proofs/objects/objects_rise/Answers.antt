@@ -3,9 +3,9 @@ use Rattle.std.specs.Ordering.{is_lt}
 use Rattle.std.proofs.lemmas.Fn.{always_returns_same}
 use Rattle.kola_values.specs.Values.{VObj}
 use Rattle.kola_values.specs.Order.{cmp}
-use Rattle.kola_values.specs.declared.object.ObjectDef.{ObjectDef}
-use Rattle.kola_values.proofs.Sorting.{objects_told}
-use Rattle.kola_values.proofs.objects.objects_rise.Goals as goal
+use Rattle.kola_database.specs.declared.object.ObjectDef.{ObjectDef}
+use Rattle.kola_database.proofs.Sorting.{objects_told}
+use Rattle.kola_database.proofs.objects.objects_rise.Goals as goal
 
 pub returns : goal.returns
 returns c =

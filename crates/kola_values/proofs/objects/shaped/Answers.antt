@@ -1,7 +1,7 @@
 use Rattle.std.proofs.Common.{sym, ◌∙◌}
 use Rattle.kola_values.specs.Views.{type_tree, value_tree}
-use Rattle.kola_values.proofs.MeetingTypes.{shaped_exactly}
-use Rattle.kola_values.proofs.objects.shaped.Goals as goal
+use Rattle.kola_database.proofs.MeetingTypes.{shaped_exactly}
+use Rattle.kola_database.proofs.objects.shaped.Goals as goal
 
 pub returns : goal.returns
 returns c =

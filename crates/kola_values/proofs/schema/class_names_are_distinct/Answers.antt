@@ -1,7 +1,7 @@
 use Rattle.std.proofs.Common.{sym, ◌∙◌}
-use Rattle.kola_values.specs.declared.schema.ClassDef.{ClassDef}
-use Rattle.kola_values.proofs.Schemas.{distinct_more, repeated}
-use Rattle.kola_values.proofs.schema.class_names_are_distinct.Goals as goal
+use Rattle.kola_schema.specs.declared.schema.ClassDef.{ClassDef}
+use Rattle.kola_schema.proofs.Schemas.{distinct_more, repeated}
+use Rattle.kola_schema.proofs.schema.class_names_are_distinct.Goals as goal
 
 pub returns-then-has_class : goal.returns-then-has_class
 returns-then-has_class c = sym (repeated (λ (c : ClassDef). c.name) c.args.classes.now c.loop-i.i c.index-classes-i.result c.loop-i-test.true c.loop-i.invariant (sym c.has_class.ensures ∙ c.if-has_class.true))

@@ -1,7 +1,7 @@
 use Rattle.std.proofs.Common.{◌≡◌, true, false, sym, ◌∙◌, rules}
-use Rattle.kola_values.proofs.Schemas.{schema_seen, all_three, not_the_second, repeated_class}
-use Rattle.kola_values.proofs.schema.classes_ok.Goals as goal
-use Rattle.kola_values.proofs.schema.classes_ok.Goals.{then-class_names_are_distinct, else-class_names_are_distinct}
+use Rattle.kola_schema.proofs.Schemas.{schema_seen, all_three, not_the_second, repeated_class}
+use Rattle.kola_schema.proofs.schema.classes_ok.Goals as goal
+use Rattle.kola_schema.proofs.schema.classes_ok.Goals.{then-class_names_are_distinct, else-class_names_are_distinct}
 
 pub returns-then-extent_names_are_distinct : goal.returns-then-extent_names_are_distinct
 returns-then-extent_names_are_distinct c =

@@ -1,9 +1,9 @@
 use Rattle.std.proofs.Common.{◌≡◌, true, ◌++◌, map}
 use Rattle.std.specs.Vec.Iter.{into_iter_items}
 use Rattle.kola_values.specs.Sets.{Each}
-use Rattle.kola_values.specs.Schemas.{are_distinct, names_of}
-use Rattle.kola_values.specs.SchemaViews.{class_tree}
-use Rattle.kola_values.proofs.schema.indexed.Given as goal
+use Rattle.kola_schema.specs.Schemas.{are_distinct, names_of}
+use Rattle.kola_schema.specs.SchemaViews.{class_tree}
+use Rattle.kola_schema.proofs.schema.indexed.Given as goal
 
 abbrev pub invariant-loop-class : goal.invariant-loop-class
 invariant-loop-class l =

@@ -1,10 +1,10 @@
 use Rattle.std.proofs.Common.{◌≡◌, true, false, map, ap, sym, ◌∙◌, rules}
 use Rattle.std.specs.List.{list_all}
-use Rattle.kola_values.specs.Schemas.{class_names, names_of, is_key}
-use Rattle.kola_values.specs.SchemaViews.{class_tree}
-use Rattle.kola_values.proofs.Schemas.{class_seen, all_three, not_the_second, repeated_attribute}
-use Rattle.kola_values.proofs.schema.is_class.Goals as goal
-use Rattle.kola_values.proofs.schema.is_class.Goals.{then-labels_are_distinct, else-labels_are_distinct}
+use Rattle.kola_schema.specs.Schemas.{class_names, names_of, is_key}
+use Rattle.kola_schema.specs.SchemaViews.{class_tree}
+use Rattle.kola_schema.proofs.Schemas.{class_seen, all_three, not_the_second, repeated_attribute}
+use Rattle.kola_schema.proofs.schema.is_class.Goals as goal
+use Rattle.kola_schema.proofs.schema.is_class.Goals.{then-labels_are_distinct, else-labels_are_distinct}
 
 pub returns-then-are_stored_types : goal.returns-then-are_stored_types
 returns-then-are_stored_types c =

@@ -1,11 +1,11 @@
 use Rattle.std.proofs.Common.{◌++◌, map, ap, ◌∙◌, refl, arith, codes}
 use Rattle.kola_values.specs.Types.{of_type_fields}
 use Rattle.kola_values.specs.Views.{type_tree, type_entry}
-use Rattle.kola_values.specs.Spelling.{type_spelling, further_field_types}
+use Rattle.kola_canon.specs.Spelling.{type_spelling, further_field_types}
 use Rattle.kola_values.specs.Models.Weights.{types_weight}
 use Rattle.kola_values.proofs.Loops.{type_entry_falls}
-use Rattle.kola_values.proofs.Texts.{further_field_types_push, type_field, spelt_more, regroup}
-use Rattle.kola_values.proofs.text.+push_type.Goals as goal
+use Rattle.kola_canon.proofs.Texts.{further_field_types_push, type_field, spelt_more, regroup}
+use Rattle.kola_canon.proofs.text.+push_type.Goals as goal
 
 pub push_field_types-push_type-requires-in-loop-label : goal.push_field_types-push_type-requires-in-loop-label
 push_field_types-push_type-requires-in-loop-label t c =

@@ -1,9 +1,9 @@
 use Rattle.std.proofs.Common.{◌≡◌, ◌++◌, map, take}
 use Rattle.kola_values.specs.Types.{of_type_fields}
 use Rattle.kola_values.specs.Views.{type_tree, type_entry}
-use Rattle.kola_values.specs.Spelling.{further_field_types}
+use Rattle.kola_canon.specs.Spelling.{further_field_types}
 use Rattle.kola_values.specs.Models.Weights.{type_weight, types_weight}
-use Rattle.kola_values.proofs.text.+push_type.Given as goal
+use Rattle.kola_canon.proofs.text.+push_type.Given as goal
 
 abbrev pub decreases-push_type : goal.decreases-push_type
 decreases-push_type l = type_weight (type_tree l.t.now)

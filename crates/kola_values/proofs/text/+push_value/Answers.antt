@@ -2,11 +2,11 @@ use Rattle.std.proofs.Common.{◌++◌, map, ap, ◌∙◌, refl, arith, codes}
 use Rattle.std.proofs.lemmas.List.{append_assoc}
 use Rattle.kola_values.specs.Values.{of_items, of_fields}
 use Rattle.kola_values.specs.Views.{value_tree, value_entry}
-use Rattle.kola_values.specs.Spelling.{value_spelling, further_members, further_fields}
+use Rattle.kola_canon.specs.Spelling.{value_spelling, further_members, further_fields}
 use Rattle.kola_values.specs.Models.Weights.{members_weight, fields_weight}
 use Rattle.kola_values.proofs.Loops.{member_falls, value_entry_falls}
-use Rattle.kola_values.proofs.Texts.{further_members_push, further_fields_push, value_field, spelt_more, regroup}
-use Rattle.kola_values.proofs.text.+push_value.Goals as goal
+use Rattle.kola_canon.proofs.Texts.{further_members_push, further_fields_push, value_field, spelt_more, regroup}
+use Rattle.kola_canon.proofs.text.+push_value.Goals as goal
 
 pub push_members-push_value-requires-in-loop-member : goal.push_members-push_value-requires-in-loop-member
 push_members-push_value-requires-in-loop-member t c =

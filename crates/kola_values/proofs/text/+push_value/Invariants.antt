@@ -1,9 +1,9 @@
 use Rattle.std.proofs.Common.{◌≡◌, ◌+◌, ◌*◌, ◌++◌, map, take}
 use Rattle.kola_values.specs.Values.{of_items, of_fields}
 use Rattle.kola_values.specs.Views.{value_tree, value_entry}
-use Rattle.kola_values.specs.Spelling.{further_members, further_fields}
+use Rattle.kola_canon.specs.Spelling.{further_members, further_fields}
 use Rattle.kola_values.specs.Models.Weights.{weight, members_weight, fields_weight}
-use Rattle.kola_values.proofs.text.+push_value.Given as goal
+use Rattle.kola_canon.proofs.text.+push_value.Given as goal
 
 abbrev pub decreases-push_value : goal.decreases-push_value
 decreases-push_value l = 2 * weight (value_tree l.v.now)

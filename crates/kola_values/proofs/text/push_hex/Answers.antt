@@ -1,7 +1,7 @@
 use Rattle.std.proofs.Common.{◌∷◌, [], ◌++◌, false, sym, ap, ◌∙◌, arith}
 use Rattle.std.proofs.lemmas.Fmt.{hex_one_digit, hex_two_digits}
 use Rattle.std.proofs.lemmas.List.{append_assoc}
-use Rattle.kola_values.proofs.text.push_hex.Goals as goal
+use Rattle.kola_canon.proofs.text.push_hex.Goals as goal
 
 pub returns-then-byte-lt16 : goal.returns-then-byte-lt16
 returns-then-byte-lt16 c =

@@ -1,9 +1,9 @@
 use Rattle.std.proofs.Common.{rules, ◌∙◌, ap, map}
 use Rattle.kola_values.specs.Databases.{look_up}
-use Rattle.kola_values.specs.Stored.{object_named}
-use Rattle.kola_values.specs.ObjectViews.{object_tree}
-use Rattle.kola_values.proofs.Stored.{value_found}
-use Rattle.kola_values.proofs.db.Db.attribute.Goals as goal
+use Rattle.kola_database.specs.Stored.{object_named}
+use Rattle.kola_database.specs.ObjectViews.{object_tree}
+use Rattle.kola_database.proofs.Stored.{value_found}
+use Rattle.kola_database.proofs.db.Db.attribute.Goals as goal
 
 pub returns-in_err-entry : goal.returns-in_err-entry
 returns-in_err-entry c =

@@ -1,10 +1,10 @@
 use Rattle.std.proofs.Common.{◌≡◌, ◌∙◌, true, Some, sym, ap, map, slice_get, subst}
 use Rattle.kola_values.specs.Databases.{Object, Objects}
-use Rattle.kola_values.specs.Schemas.{are_distinct, names_of}
-use Rattle.kola_values.specs.Stored.{object_named, attribute_at}
-use Rattle.kola_values.specs.ObjectViews.{object_tree}
+use Rattle.kola_schema.specs.Schemas.{are_distinct, names_of}
+use Rattle.kola_database.specs.Stored.{object_named, attribute_at}
+use Rattle.kola_database.specs.ObjectViews.{object_tree}
 use Rattle.kola_values.proofs.Numbered.{named_holds, attribute_numbered}
-use Rattle.kola_values.proofs.db.Db.attribute_at.Goals as goal
+use Rattle.kola_database.proofs.db.Db.attribute_at.Goals as goal
 
 pub value_from-requires : goal.value_from-requires
 value_from-requires c =

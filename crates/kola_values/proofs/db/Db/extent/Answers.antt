@@ -1,8 +1,8 @@
 use Rattle.std.proofs.Common.{rules, position, ◌∙◌, ap, map}
-use Rattle.kola_values.specs.Stored.{extent_in}
-use Rattle.kola_values.specs.ObjectViews.{object_tree}
-use Rattle.kola_values.proofs.Stored.{members_at_place}
-use Rattle.kola_values.proofs.db.Db.extent.Goals as goal
+use Rattle.kola_database.specs.Stored.{extent_in}
+use Rattle.kola_database.specs.ObjectViews.{object_tree}
+use Rattle.kola_database.proofs.Stored.{members_at_place}
+use Rattle.kola_database.proofs.db.Db.extent.Goals as goal
 use Rattle.std.specs.Str.{bytes_eq}
 
 pub returns-in_err-place : goal.returns-in_err-place

@@ -1,8 +1,8 @@
 use Rattle.std.proofs.Common.{◌∙◌, ap, map, sym, slice_get, option_map}
-use Rattle.kola_values.specs.Stored.{extent_at}
-use Rattle.kola_values.specs.ObjectViews.{object_tree}
+use Rattle.kola_database.specs.Stored.{extent_at}
+use Rattle.kola_database.specs.ObjectViews.{object_tree}
 use Rattle.kola_values.proofs.Numbered.{members_numbered}
-use Rattle.kola_values.proofs.db.Db.extent_at.Goals as goal
+use Rattle.kola_database.proofs.db.Db.extent_at.Goals as goal
 
 pub returns : goal.returns
 returns c =

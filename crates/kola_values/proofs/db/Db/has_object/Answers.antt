@@ -2,9 +2,9 @@ use Rattle.std.proofs.Common.{◌∙◌, sym, ap, map, is_some}
 use Rattle.kola_values.specs.Values.{VObj}
 use Rattle.kola_values.specs.Sets.{has}
 use Rattle.kola_values.specs.Databases.{objects_of}
-use Rattle.kola_values.specs.ObjectViews.{object_tree, object_at}
-use Rattle.kola_values.proofs.Stored.{object_is_there, some_mapped}
-use Rattle.kola_values.proofs.db.Db.has_object.Goals as goal
+use Rattle.kola_database.specs.ObjectViews.{object_tree, object_at}
+use Rattle.kola_database.proofs.Stored.{object_is_there, some_mapped}
+use Rattle.kola_database.proofs.db.Db.has_object.Goals as goal
 
 pub returns : goal.returns
 returns c =

@@ -5,17 +5,17 @@ use Rattle.std.proofs.lemmas.List.Sorted.{ranks_by, IsPermutation-map}
 use Rattle.kola_values.specs.Order.{cmp}
 use Rattle.kola_values.specs.Sets.{Rising, Each, canon}
 use Rattle.kola_values.specs.Databases.{Classes, objects_of}
-use Rattle.kola_values.specs.Meets.{Meets, object_values}
-use Rattle.kola_values.specs.Schemas.{are_distinct}
-use Rattle.kola_values.specs.ObjectViews.{object_tree}
-use Rattle.kola_values.specs.ExtentViews.{extent_entry, extent_labels, filled}
-use Rattle.kola_values.specs.declared.object.ObjectDef.{ObjectDef}
+use Rattle.kola_schema.specs.Meets.{Meets, object_values}
+use Rattle.kola_schema.specs.Schemas.{are_distinct}
+use Rattle.kola_database.specs.ObjectViews.{object_tree}
+use Rattle.kola_database.specs.ExtentViews.{extent_entry, extent_labels, filled}
+use Rattle.kola_database.specs.declared.object.ObjectDef.{ObjectDef}
 use Rattle.kola_values.specs.Models.Total.{cmp_total}
-use Rattle.kola_values.proofs.Reordered.{meets_reordered}
-use Rattle.kola_values.proofs.Schemas.{parts_of_schema}
-use Rattle.kola_values.proofs.Stored.{object_value, in_order, filled_sets, filled_names, filled_entries, filled_labels, each_once}
-use Rattle.kola_values.proofs.db.Db.make.Goals as goal
-use Rattle.kola_values.proofs.db.Db.make.Goals.{In_ok-extents}
+use Rattle.kola_database.proofs.Reordered.{meets_reordered}
+use Rattle.kola_schema.proofs.Schemas.{parts_of_schema}
+use Rattle.kola_database.proofs.Stored.{object_value, in_order, filled_sets, filled_names, filled_entries, filled_labels, each_once}
+use Rattle.kola_database.proofs.db.Db.make.Goals as goal
+use Rattle.kola_database.proofs.db.Db.make.Goals.{In_ok-extents}
 
 meets_sorted : (xs ys : List ObjectDef) (S : Classes) → IsPermutation xs ys → Meets S (map object_tree xs) → Meets S (map object_tree ys)
 meets_sorted xs ys S p m = meets_reordered S (map object_tree xs) (map object_tree ys) (IsPermutation-map object_tree xs ys p) m

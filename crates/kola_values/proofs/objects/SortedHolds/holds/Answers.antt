@@ -3,10 +3,10 @@ use Rattle.std.proofs.lemmas.Fn.{always_returns_same}
 use Rattle.kola_values.specs.Values.{VObj}
 use Rattle.kola_values.specs.Order.{cmp}
 use Rattle.kola_values.specs.Sets.{has}
-use Rattle.kola_values.specs.declared.object.ObjectDef.{ObjectDef}
+use Rattle.kola_database.specs.declared.object.ObjectDef.{ObjectDef}
 use Rattle.kola_values.proofs.Making.{found_sorted}
-use Rattle.kola_values.proofs.MeetingLoops.{values_seen}
-use Rattle.kola_values.proofs.objects.SortedHolds.holds.Goals as goal
+use Rattle.kola_database.proofs.MeetingLoops.{values_seen}
+use Rattle.kola_database.proofs.objects.SortedHolds.holds.Goals as goal
 
 pub returns : goal.returns
 returns c =

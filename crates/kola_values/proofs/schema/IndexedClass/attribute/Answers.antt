@@ -1,8 +1,8 @@
 use Rattle.std.proofs.Common.{rules, ◌∙◌, ap, position}
 use Rattle.std.specs.Str.{bytes_eq}
 use Rattle.kola_values.specs.Databases.{look_up}
-use Rattle.kola_values.proofs.Places.{entry_at_place}
-use Rattle.kola_values.proofs.schema.IndexedClass.attribute.Goals as goal
+use Rattle.kola_schema.proofs.Places.{entry_at_place}
+use Rattle.kola_schema.proofs.schema.IndexedClass.attribute.Goals as goal
 
 pub returns-in_err-place : goal.returns-in_err-place
 returns-in_err-place c =

@@ -1,6 +1,6 @@
 use Rattle.std.proofs.Common.{rules}
-use Rattle.kola_values.proofs.Schemas.{attribute_of_class}
-use Rattle.kola_values.proofs.schema.Schema.attribute.Goals as goal
+use Rattle.kola_schema.proofs.Schemas.{attribute_of_class}
+use Rattle.kola_schema.proofs.schema.Schema.attribute.Goals as goal
 
 pub returns-in_err-by_name : goal.returns-in_err-by_name
 returns-in_err-by_name c =

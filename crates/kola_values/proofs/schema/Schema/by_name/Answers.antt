@@ -1,7 +1,7 @@
 use Rattle.std.proofs.Common.{rules, position, ◌∙◌, ap}
-use Rattle.kola_values.specs.Schemas.{class_named}
-use Rattle.kola_values.proofs.Places.{class_at_place}
-use Rattle.kola_values.proofs.schema.Schema.by_name.Goals as goal
+use Rattle.kola_schema.specs.Schemas.{class_named}
+use Rattle.kola_schema.proofs.Places.{class_at_place}
+use Rattle.kola_schema.proofs.schema.Schema.by_name.Goals as goal
 use Rattle.std.specs.Str.{bytes_eq}
 
 pub returns-in_err-place : goal.returns-in_err-place

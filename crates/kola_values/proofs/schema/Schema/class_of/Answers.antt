@@ -1,7 +1,7 @@
 use Rattle.std.proofs.Common.{rules, position, ◌∙◌, ap}
 use Rattle.kola_values.specs.Databases.{extent_class}
-use Rattle.kola_values.proofs.Places.{extent_at_place}
-use Rattle.kola_values.proofs.schema.Schema.class_of.Goals as goal
+use Rattle.kola_schema.proofs.Places.{extent_at_place}
+use Rattle.kola_schema.proofs.schema.Schema.class_of.Goals as goal
 use Rattle.std.specs.Str.{bytes_eq}
 
 pub returns-in_err-place : goal.returns-in_err-place

@@ -1,7 +1,7 @@
 use Rattle.std.proofs.Common.{map, ap, ◌∙◌, sym}
-use Rattle.kola_values.specs.Schemas.{are_distinct, is_schema, class_names, extent_names}
-use Rattle.kola_values.proofs.Schemas.{class_names_apart, extent_names_apart, attribute_names_apart, class_names_seen, extent_names_seen}
-use Rattle.kola_values.proofs.schema.Schema.make.Goals as goal
+use Rattle.kola_schema.specs.Schemas.{are_distinct, is_schema, class_names, extent_names}
+use Rattle.kola_schema.proofs.Schemas.{class_names_apart, extent_names_apart, attribute_names_apart, class_names_seen, extent_names_seen}
+use Rattle.kola_schema.proofs.schema.Schema.make.Goals as goal
 
 pub class_table-requires : goal.class_table-requires
 class_table-requires c = ap (λ l. are_distinct (map (λ d. d.name) l)) c.as_slice.ensures.value ∙ class_names_apart c.args.classes.items c.requires

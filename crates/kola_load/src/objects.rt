@@ -53,6 +53,40 @@ fn unknown_label(alloc: Global, class: &IndexedClass, object: &Json) -> Result<O
     least_unknown(alloc, &labels, members)
 }
 
+// The fault that an attribute has no member.
+fn missing_attribute(class: &Name, id: u32, name: &Name) -> Result<DbFault, Memory>
+    ensures { IfOk result (λ f. f ≡ faults.MissingAttribute class.now id name.now) }
+{
+    Ok(DbFault::MissingAttribute {
+        class: class.copy()?,
+        id,
+        name: name.copy()?,
+    })
+}
+
+// The fault that the member of an attribute is not of its type.
+fn wrong_type(class: &Name, id: u32, name: &Name) -> Result<DbFault, Memory>
+    ensures { IfOk result (λ f. f ≡ faults.WrongType class.now id name.now) }
+{
+    Ok(DbFault::WrongType {
+        class: class.copy()?,
+        id,
+        name: name.copy()?,
+    })
+}
+
+// The fault that a reference names no object of its class.
+fn no_such_object(class: &Name, id: u32, name: &Name, target: u32) -> Result<DbFault, Memory>
+    ensures { IfOk result (λ f. f ≡ faults.NoSuchObject class.now id name.now target) }
+{
+    Ok(DbFault::NoSuchObject {
+        class: class.copy()?,
+        id,
+        name: name.copy()?,
+        target,
+    })
+}
+
 // An attribute with its value in an object.
 fn read_attribute(
     alloc: Global,
@@ -67,26 +101,13 @@ fn read_attribute(
 {
     let (name, t) = attribute;
     let Some(member) = object.get(name.as_text()) else {
-        return Err(DbFault::MissingAttribute {
-            class: class.name.copy()?,
-            id,
-            name: name.copy()?,
-        });
+        return Err(missing_attribute(&class.name, id, name)?);
     };
     let Some(value) = value_of(alloc, t, member)? else {
-        return Err(DbFault::WrongType {
-            class: class.name.copy()?,
-            id,
-            name: name.copy()?,
-        });
+        return Err(wrong_type(&class.name, id, name)?);
     };
     if let Some(target) = missing(ids, t, member) {
-        return Err(DbFault::NoSuchObject {
-            class: class.name.copy()?,
-            id,
-            name: name.copy()?,
-            target,
-        });
+        return Err(no_such_object(&class.name, id, name, target)?);
     }
     Ok((name.copy()?, value))
 }

@@ -22,3 +22,4 @@ pub mod FirstMarkLaws
 pub mod MarkLoops
 pub mod PlainLaws
 pub mod OneSchema
+mod SchemaFaultExamples

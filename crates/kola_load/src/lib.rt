@@ -31,8 +31,4 @@ pub use schema_names::is_name;
 pub use schema_read::read_schema;
 
 #[cfg(test)]
-mod db_samples;
-#[cfg(test)]
-mod db_tests;
-#[cfg(test)]
 mod schema_tests;

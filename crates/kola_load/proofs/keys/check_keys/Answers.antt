@@ -19,7 +19,7 @@ returns-in_err-check_class c =
     let q = seen_at (λ os. map object_tree os.items) c.args.lists.now c.loop-i.i c.index-lists-i.result (omega arith) c.index-lists-i.is in
     handed_on _ _ c.from_residual.result _ c.from_residual.ensures.1
     (λ e. lists_found S oss c.loop-i.i c.loop-i.invariant c.index-classes-i.result (map object_tree c.index-lists-i.result.items) p.0 q.0 p.1 q.1 _
-    ((λ j. keys_fault (sym c.get.ensures j) (map object_tree (sym c.deref.ensures.value j))) ∙ c.in_err-check_class.ensures e))
+    (ap (λ l. keys_fault c.index-classes-i.result (map object_tree l)) (sym c.deref.ensures.value) ∙ c.in_err-check_class.ensures e))
 
 pub loop-i-preserved : goal.loop-i-preserved
 loop-i-preserved c =
@@ -30,7 +30,7 @@ loop-i-preserved c =
     let m = length-map c.args.lists.now (λ os. map object_tree os.items) in
     let q = seen_at (λ os. map object_tree os.items) c.args.lists.now c.loop-i.i c.index-lists-i.result (omega arith) c.index-lists-i.is in
     lists_next S oss c.loop-i.i c.loop-i.invariant c.index-classes-i.result (map object_tree c.index-lists-i.result.items) p.0 q.0 p.1 q.1
-    ((λ j. keys_fault (sym c.get.ensures j) (map object_tree (sym c.deref.ensures.value j))) ∙ c.in_ok-check_class.ensures.0)
+    (ap (λ l. keys_fault c.index-classes-i.result (map object_tree l)) (sym c.deref.ensures.value) ∙ c.in_ok-check_class.ensures.0)
 
 pub bounds-lists-i : goal.bounds-lists-i
 bounds-lists-i c =
@@ -49,4 +49,4 @@ check_class-requires c =
     let m = length-map c.args.lists.now (λ os. map object_tree os.items) in
     let q = seen_at (λ os. map object_tree os.items) c.args.lists.now c.loop-i.i c.index-lists-i.result (omega arith) c.index-lists-i.is in
     let h = of_class_at S oss c.loop-i.i c.index-classes-i.result (map object_tree c.index-lists-i.result.items) c.requires p.0 p.1 q.1 in
-    subst (λ k. AreOfClass k (map object_tree c.deref.result.now)) (sym c.get.ensures) (subst (λ os. AreOfClass c.index-classes-i.result (map object_tree os)) (sym c.deref.ensures.value) h)
+    subst (λ os. AreOfClass c.index-classes-i.result (map object_tree os)) (sym c.deref.ensures.value) h

@@ -39,7 +39,7 @@ impl Quote<'_> {
     {
         let bytes = string_of(alloc, self.string)?;
         let text = String::from_utf8(bytes).unwrap();
-        Ok(Text::from_string(text))
+        Text::from_string(text)
     }
 }
 

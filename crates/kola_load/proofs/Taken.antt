@@ -13,8 +13,8 @@ use Rattle.serde_json.specs.declared.value.Value.{Value}
 use Rattle.serde_json.proofs.Views.{view-lookup}
 use Rattle.kola_values.specs.Databases.{Class, Classes}
 use Rattle.kola_core.specs.NameLists.{is_listed}
-use Rattle.kola_values.specs.Schemas.{are_distinct, extent_names}
-use Rattle.kola_values.proofs.NameTests.{both_false}
+use Rattle.kola_schema.specs.Schemas.{are_distinct, extent_names}
+use Rattle.kola_values.proofs.Truth.{both_false}
 use Rattle.kola_load.specs.Json.{elements}
 use Rattle.kola_load.specs.Members.{Entries, elements_at, AreLeft}
 use Rattle.kola_load.specs.Written.{extent_of}

@@ -1,7 +1,7 @@
 -- The names that the members of an object may have.
 use Rattle.std.specs.Prelude.{ℕ, List, ◌∷◌, codes}
 use Rattle.kola_values.specs.Databases.{Class}
-use Rattle.kola_values.specs.Schemas.{names_of}
+use Rattle.kola_schema.specs.Schemas.{names_of}
 
 -- those of an object of the class
 abbrev pub labels : Class → List (List ℕ)

@@ -3,7 +3,7 @@ use kola_core::{Memory, Name, Text};
 use std::alloc::AllocFailed;
 
 /// Why a text is no database of a schema: the first fault of its JSON value, or why it has none.
-#[derive(Debug, Drop)]
+#[derive(Drop)]
 pub enum DbFault {
     /// The text is not UTF-8, or it is no JSON that nests at most 127 deep.
     NotJson,

@@ -5,8 +5,8 @@ ghost use Rattle.std.specs.Str.{bytes_eq};
 ghost use Rattle.std.specs.Cmp.Lexicographic.{slice_cmp};
 ghost use Rattle.kola_values.specs.Values.{VUnit};
 ghost use Rattle.kola_values.specs.Order.{cmp};
-ghost use Rattle.kola_values.specs.Schemas.{names_of};
-ghost use Rattle.kola_values.specs.ObjectViews.{object_tree};
+ghost use Rattle.kola_schema.specs.Schemas.{names_of};
+ghost use Rattle.kola_database.specs.ObjectViews.{object_tree};
 ghost use Rattle.kola_values.specs.Views.{value_tree, value_at};
 ghost use Rattle.kola_load.specs.Calls.{Finds, Nothing};
 ghost use Rattle.kola_load.specs.KeyViews.{key_tree, key_cmp, value_at_place, AreOfClass, AreOfClasses, lists_fault};
@@ -15,7 +15,9 @@ ghost use Rattle.kola_load.specs.declared.fault.DbFault.TheVariants as faults;
 
 use crate::DbFault;
 use kola_core::{Memory, Name, Names};
-use kola_values::{IndexedClass, ObjectDef, Schema, Value, cmp_values};
+use kola_database::ObjectDef;
+use kola_schema::{IndexedClass, Schema};
+use kola_values::{Value, cmp_values};
 use std::alloc::Global;
 use std::cmp::Ordering;
 use std::collections::BTreeMap;
@@ -171,19 +173,20 @@ fn key_repeats(class: &Name, key: usize, first: u32, second: u32) -> DbFault
 // Whether no object agrees with an earlier one on a key, which stands at a place counted from 1.
 fn check_key(
     alloc: Global,
+    unit: &Value,
     class: &IndexedClass,
     place: usize,
     key: &Names,
     objects: &[ObjectDef],
 ) -> Result<(), DbFault>
-    requires { AreOfClass class.now (map object_tree objects.now) }
+    requires unit { value_tree unit.now ≡ VUnit }
+    requires objects { AreOfClass class.now (map object_tree objects.now) }
     ensures { Finds (first_among (repeat_fault class.now place key.now) [] (map object_tree objects.now)) Nothing result }
 {
-    let unit = Value::Unit;
     let places = places_of(alloc, class, key.as_slice())?;
     let mut seen: BTreeMap<KeyOf<'_>, u32> = BTreeMap::new(alloc);
     for object in objects {
-        let said = key_of(alloc, &unit, object, places.as_slice())?;
+        let said = key_of(alloc, unit, object, places.as_slice())?;
         let before = earlier(&mut seen, said, object.id)?;
         match before {
             Some(first) => return Err(key_repeats(&class.get().name, place, first, object.id)),
@@ -194,18 +197,42 @@ fn check_key(
 }
 
 // Whether no object of a class agrees with an earlier one on a key of the class.
-fn check_class(alloc: Global, class: &IndexedClass, objects: &[ObjectDef]) -> Result<(), DbFault>
-    requires { AreOfClass class.now (map object_tree objects.now) }
+fn check_class(
+    alloc: Global,
+    unit: &Value,
+    class: &IndexedClass,
+    objects: &[ObjectDef],
+) -> Result<(), DbFault>
+    requires unit { value_tree unit.now ≡ VUnit }
+    requires objects { AreOfClass class.now (map object_tree objects.now) }
     ensures { Finds (keys_fault class.now (map object_tree objects.now)) Nothing result }
 {
     let keys = class.get().keys.as_slice();
     for i in 0..keys.len() {
-        check_key(alloc, class, i + 1, &keys[i], objects)?;
+        check_key(alloc, unit, class, i + 1, &keys[i], objects)?;
     }
     Ok(())
 }
 
 // The same of the objects of each class, which the lists have in the order of the schema.
+fn check_classes(
+    alloc: Global,
+    unit: &Value,
+    schema: &Schema,
+    lists: &[Vec<ObjectDef>],
+) -> Result<(), DbFault>
+    requires unit { value_tree unit.now ≡ VUnit }
+    requires objects { AreOfClasses schema.now (map (λ os. map object_tree os.items) lists.now) }
+    ensures { Finds (lists_fault schema.now (map (λ os. map object_tree os.items) lists.now)) Nothing result }
+{
+    let classes = schema.classes();
+    for i in 0..classes.len() {
+        check_class(alloc, unit, &classes[i], &lists[i])?;
+    }
+    Ok(())
+}
+
+// The same.
 pub(crate) fn check_keys(
     alloc: Global,
     schema: &Schema,
@@ -214,9 +241,5 @@ pub(crate) fn check_keys(
     requires { AreOfClasses schema.now (map (λ os. map object_tree os.items) lists.now) }
     ensures { Finds (lists_fault schema.now (map (λ os. map object_tree os.items) lists.now)) Nothing result }
 {
-    let classes = schema.classes();
-    for i in 0..classes.len() {
-        check_class(alloc, &classes[i], &lists[i])?;
-    }
-    Ok(())
+    check_classes(alloc, &Value::Unit, schema, lists)
 }

@@ -2,9 +2,9 @@
 ghost use Rattle.std.specs.Prelude.{◌≡◌, codes, ◌∷◌, map, IfOk};
 ghost use Rattle.serde_json.specs.Data.{object};
 ghost use Rattle.serde_json.specs.View.{view, members_view};
-ghost use Rattle.kola_values.specs.Schemas.{names_of};
-ghost use Rattle.kola_values.specs.SchemaViews.{class_tree};
-ghost use Rattle.kola_values.specs.ObjectViews.{object_tree};
+ghost use Rattle.kola_schema.specs.Schemas.{names_of};
+ghost use Rattle.kola_schema.specs.SchemaViews.{class_tree};
+ghost use Rattle.kola_database.specs.ObjectViews.{object_tree};
 ghost use Rattle.kola_values.specs.Views.{type_entry, value_entry};
 ghost use Rattle.kola_load.specs.Calls.{Finds};
 ghost use Rattle.kola_load.specs.Ids.{there};
@@ -20,7 +20,9 @@ use crate::json::own_id;
 use crate::names::{Knows, least_unknown};
 use crate::values::{missing, value_of};
 use kola_core::{Memory, Name, Text};
-use kola_values::{ClassDef, IndexedClass, ObjectDef, Schema, Ty, Value, ValueFields};
+use kola_database::ObjectDef;
+use kola_schema::{ClassDef, IndexedClass, Schema};
+use kola_values::{Ty, Value, ValueFields};
 use serde_json::{Map, Value as Json};
 use std::alloc::Global;
 
@@ -51,6 +53,40 @@ fn unknown_label(alloc: Global, class: &IndexedClass, object: &Json) -> Result<O
     least_unknown(alloc, &labels, members)
 }
 
+// The fault that an attribute has no member.
+fn missing_attribute(class: &Name, id: u32, name: &Name) -> Result<DbFault, Memory>
+    ensures { IfOk result (λ f. f ≡ faults.MissingAttribute class.now id name.now) }
+{
+    Ok(DbFault::MissingAttribute {
+        class: class.copy()?,
+        id,
+        name: name.copy()?,
+    })
+}
+
+// The fault that the member of an attribute is not of its type.
+fn wrong_type(class: &Name, id: u32, name: &Name) -> Result<DbFault, Memory>
+    ensures { IfOk result (λ f. f ≡ faults.WrongType class.now id name.now) }
+{
+    Ok(DbFault::WrongType {
+        class: class.copy()?,
+        id,
+        name: name.copy()?,
+    })
+}
+
+// The fault that a reference names no object of its class.
+fn no_such_object(class: &Name, id: u32, name: &Name, target: u32) -> Result<DbFault, Memory>
+    ensures { IfOk result (λ f. f ≡ faults.NoSuchObject class.now id name.now target) }
+{
+    Ok(DbFault::NoSuchObject {
+        class: class.copy()?,
+        id,
+        name: name.copy()?,
+        target,
+    })
+}
+
 // An attribute with its value in an object.
 fn read_attribute(
     alloc: Global,
@@ -65,26 +101,13 @@ fn read_attribute(
 {
     let (name, t) = attribute;
     let Some(member) = object.get(name.as_text()) else {
-        return Err(DbFault::MissingAttribute {
-            class: class.name.copy()?,
-            id,
-            name: name.copy()?,
-        });
+        return Err(missing_attribute(&class.name, id, name)?);
     };
     let Some(value) = value_of(alloc, t, member)? else {
-        return Err(DbFault::WrongType {
-            class: class.name.copy()?,
-            id,
-            name: name.copy()?,
-        });
+        return Err(wrong_type(&class.name, id, name)?);
     };
     if let Some(target) = missing(ids, t, member) {
-        return Err(DbFault::NoSuchObject {
-            class: class.name.copy()?,
-            id,
-            name: name.copy()?,
-            target,
-        });
+        return Err(no_such_object(&class.name, id, name, target)?);
     }
     Ok((name.copy()?, value))
 }

@@ -15,7 +15,7 @@ use Rattle.kola_base.specs.Lexemes.{lexemes}
 use Rattle.kola_top.specs.SelectForm.{SelectForm, Says}
 use Rattle.kola_top.specs.SelectMeaning.{value_of_form, translation, visits_of_form}
 use Rattle.kola_text.specs.Spelling.{fun_spelling}
-use Rattle.kola_values.specs.Spelling.{value_spelling}
+use Rattle.kola_canon.specs.Spelling.{value_spelling}
 use Rattle.kola_values.specs.Databases.{Classes, Objects}
 use Rattle.serde_json.specs.Data.{Data}
 use Rattle.kola_load.specs.Loading.{db_of}

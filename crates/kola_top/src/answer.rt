@@ -2,7 +2,7 @@
 
 ghost use Rattle.std.specs.Prelude.{◌≡◌, ◌≤◌, ◌<◌, ℕ, List, IfOk, IfSome, IsTrue, Some, length, filter, codes};
 ghost use Rattle.kola_values.specs.Values.{VSet, of_items};
-ghost use Rattle.kola_values.specs.Spelling.{value_spelling};
+ghost use Rattle.kola_canon.specs.Spelling.{value_spelling};
 ghost use Rattle.kola_term.specs.Terms.{CSet, FId, FSnd, FComp, FPair, FK, FIter};
 ghost use Rattle.kola_text.specs.Spelling.{fun_spelling};
 ghost use Rattle.kola_top.specs.Answer.{Answer, DatabaseAnswer, QueryAnswer, TextsAnswer, RunAnswer, is_memory, text_in, greatest_length, report_of_form, unchanged_report};
@@ -24,11 +24,13 @@ use crate::select::{literals_of, members_below, translate};
 use crate::select_laws::{select_is_evaluated_rightly, select_is_translated_rightly};
 use crate::status::Status;
 use crate::words::Action;
+use kola_canon::push_set;
 use kola_core::Memory;
 use kola_load::{DbFault, SchemaFault, read_db, read_schema};
+use kola_schema::Schema;
 use kola_term::{LitSet, Term};
 use kola_text::print_term;
-use kola_values::{Schema, Set, push_set};
+use kola_values::Set;
 use std::alloc::{AllocError, Global};
 
 /// The status of an answer and the bytes that are written.

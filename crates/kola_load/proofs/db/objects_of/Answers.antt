@@ -2,7 +2,7 @@ use Rattle.std.proofs.Common.{◌≡◌, true, subst, sym, None, map, ap, ◌∙
 use Rattle.serde_json.specs.Data.{Data, Members, object}
 use Rattle.serde_json.specs.View.{view, members_view}
 use Rattle.kola_values.specs.Databases.{Classes}
-use Rattle.kola_values.specs.ObjectViews.{object_tree}
+use Rattle.kola_database.specs.ObjectViews.{object_tree}
 use Rattle.kola_load.specs.Ids.{there}
 use Rattle.kola_load.specs.Json.{is_object}
 use Rattle.kola_load.specs.Loading.{unless, first_of, members_fault, objects_fault}

@@ -3,8 +3,8 @@ use Rattle.std.specs.Str.{bytes_eq}
 use Rattle.std.specs.BTreeMap as tree
 use Rattle.kola_core.proofs.Lists.{taken_more}
 use Rattle.kola_values.specs.Databases.{Class, Object}
-use Rattle.kola_values.specs.Schemas.{names_of}
-use Rattle.kola_values.specs.ObjectViews.{object_tree}
+use Rattle.kola_schema.specs.Schemas.{names_of}
+use Rattle.kola_database.specs.ObjectViews.{object_tree}
 use Rattle.kola_load.specs.KeyViews.{key_tree, key_cmp, value_at_place}
 use Rattle.kola_load.specs.Loading.{repeat_fault}
 use Rattle.kola_load.specs.declared.fault.DbFault.TheVariants.{KeyRepeats}
@@ -22,7 +22,7 @@ returns-in-Some c =
     let k = c.args.class.now in
     let key = c.args.key.now in
     let p = seen_at object_tree os i c.object-item.result c.loop-object-test.true c.object-item.is in
-    let names = each_at_place (λ (x : Object). names_of x.values ≡ names_of k.attributes) us i o c.requires p.0 p.1 in
+    let names = each_at_place (λ (x : Object). names_of x.values ≡ names_of k.attributes) us i o c.requires.objects p.0 p.1 in
     let e : key_tree c.in_ok-said.said ≡ said key o =
     c.in_ok-said.ensures ∙ ap (map (value_at_place o.values)) (c.as_slice-in-loop-object.ensures.value ∙ c.in_ok-places.ensures ∙ ap (map (λ a. position (bytes_eq a) (names_of k.attributes))) c.as_slice.ensures) ∙ said_at_places k o names key in
     let there : tree.get key_cmp c.loop-object.seen c.in_ok-said.said ≡ Some c.in-Some.first = sym c.in_ok-before.ensures.found ∙ c.in-Some.is in
@@ -38,7 +38,7 @@ loop-object-preserved c =
     let k = c.args.class.now in
     let key = c.args.key.now in
     let p = seen_at object_tree os i c.object-item.result c.loop-object-test.true c.object-item.is in
-    let names = each_at_place (λ (x : Object). names_of x.values ≡ names_of k.attributes) us i o c.requires p.0 p.1 in
+    let names = each_at_place (λ (x : Object). names_of x.values ≡ names_of k.attributes) us i o c.requires.objects p.0 p.1 in
     let e : key_tree c.in_ok-said.said ≡ said key o =
     c.in_ok-said.ensures ∙ ap (map (value_at_place o.values)) (c.as_slice-in-loop-object.ensures.value ∙ c.in_ok-places.ensures ∙ ap (map (λ a. position (bytes_eq a) (names_of k.attributes))) c.as_slice.ensures) ∙ said_at_places k o names key in
     let none : tree.get key_cmp c.loop-object.seen c.in_ok-said.said ≡ None = sym c.in_ok-before.ensures.found ∙ c.in-None.is in (

@@ -1,7 +1,7 @@
 use Rattle.std.proofs.Common.{◌≡◌, ◌++◌, map}
 use Rattle.std.specs.Vec.Iter.{into_iter_items}
 use Rattle.serde_json.specs.View.{view}
-use Rattle.kola_values.specs.ObjectViews.{object_tree}
+use Rattle.kola_database.specs.ObjectViews.{object_tree}
 use Rattle.kola_load.specs.Ids.{there}
 use Rattle.kola_load.specs.Loading.{first_of, object_fault}
 use Rattle.kola_load.specs.Written.{object_in}

@@ -3,8 +3,8 @@ use Rattle.std.proofs.lemmas.List.{map-append, take_more}
 use Rattle.serde_json.specs.Data.{object}
 use Rattle.serde_json.specs.View.{view, members_view}
 use Rattle.kola_values.specs.Databases.{Class}
-use Rattle.kola_values.specs.ObjectViews.{object_tree}
-use Rattle.kola_values.proofs.Schemas.{parts_of_schema}
+use Rattle.kola_database.specs.ObjectViews.{object_tree}
+use Rattle.kola_schema.proofs.Schemas.{parts_of_schema}
 use Rattle.kola_load.specs.Ids.{there}
 use Rattle.kola_load.specs.Loading.{first_of, object_fault, objects_fault}
 use Rattle.kola_load.specs.Members.{elements_at, AreLeft}

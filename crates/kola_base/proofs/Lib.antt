@@ -21,3 +21,4 @@ pub mod SymbolLaws
 pub mod TermWordLaws
 pub mod NamedLaws
 mod TextExamples
+pub mod TermWordLengths

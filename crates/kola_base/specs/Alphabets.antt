@@ -1,7 +1,6 @@
 -- What the tokens of a text are to a grammar, which has words of its own: W. named says which word is written so.
-use Rattle.std.specs.Prelude.{◌≡◌, ℕ, ℤ, Bool, false, List, Option, Some, None}
+use Rattle.std.specs.Prelude.{ℕ, ℤ, Bool, false, List, Option, Some, None}
 use Rattle.std.specs.Str.{bytes_eq}
-use Rattle.kola_parse.specs.Kinds.{leads}
 use Rattle.kola_base.specs.Lexemes.{Lexeme, LWord, LNumber, LString, LSign}
 use Rattle.kola_base.specs.Placed.{Placed}
 use Rattle.kola_base.specs.declared.sign.Sign.{Sign}

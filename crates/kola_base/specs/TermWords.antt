@@ -1,5 +1,5 @@
 -- The words of terms and rules, and how each is written.
-use Rattle.std.specs.Prelude.{ℕ, List, [], ◌∷◌, Option, codes}
+use Rattle.std.specs.Prelude.{ℕ, ◌==◌, List, [], ◌∷◌, length, filter, Option, codes}
 use Rattle.std.specs.List.{find}
 use Rattle.std.specs.Str.{bytes_eq}
 use Rattle.kola_base.specs.declared.term_word.TermWord.{TermWord}
@@ -67,3 +67,7 @@ term_words =
 -- the word that is written so
 unfoldable pub term_word_named : List ℕ → Option TermWord
 term_word_named bs = find (λ w. bytes_eq (term_word_spelling w) bs) term_words
+
+-- the words of so many letters, in the same order
+unfoldable pub words_of_length : ℕ → List TermWord
+words_of_length n = filter (λ w. length (term_word_spelling w) == n) term_words

@@ -1,7 +1,9 @@
 //! The words of terms and rules.
 
 ghost use Rattle.std.specs.Prelude.{◌≡◌};
-ghost use Rattle.kola_base.specs.TermWords.{term_word_spelling, term_word_named};
+ghost use Rattle.std.specs.List.{find};
+ghost use Rattle.std.specs.Str.{bytes_eq};
+ghost use Rattle.kola_base.specs.TermWords.{term_word_spelling, term_word_named, words_of_length};
 
 use crate::alphabet::Alphabet;
 
@@ -114,61 +116,75 @@ pub enum TermWord {
     End,
 }
 
-/// The words, those of terms first.
-const WORDS: [TermWord; 52] = [
+/// The words of 1 letter.
+const ONE: [TermWord; 3] = [TermWord::O, TermWord::K, TermWord::C];
+
+/// The words of 2 letters.
+const TWO: [TermWord; 15] = [
     TermWord::Id,
-    TermWord::Fst,
-    TermWord::Snd,
-    TermWord::Flat,
-    TermWord::Union,
-    TermWord::Isect,
-    TermWord::Minus,
-    TermWord::O,
-    TermWord::K,
-    TermWord::C,
     TermWord::If,
-    TermWord::Iterate,
-    TermWord::Iter,
-    TermWord::Join,
-    TermWord::Nest,
-    TermWord::Unnest,
     TermWord::Eq,
     TermWord::Lt,
     TermWord::Le,
     TermWord::In,
-    TermWord::Inv,
     TermWord::KP,
     TermWord::CP,
     TermWord::Ex,
     TermWord::Fa,
-    TermWord::True,
-    TermWord::False,
-    TermWord::Count,
-    TermWord::Rule,
-    TermWord::Block,
     TermWord::At,
-    TermWord::When,
-    TermWord::Inj,
-    TermWord::Proof,
     TermWord::By,
+    TermWord::Bu,
+    TermWord::Td,
+    TermWord::Do,
+];
+
+/// The words of 3 letters.
+const THREE: [TermWord; 9] = [
+    TermWord::Fst,
+    TermWord::Snd,
+    TermWord::Inv,
+    TermWord::Inj,
     TermWord::Rev,
     TermWord::Qed,
+    TermWord::Set,
+    TermWord::Int,
+    TermWord::End,
+];
+
+/// The words of 4 letters.
+const FOUR: [TermWord; 13] = [
+    TermWord::Flat,
+    TermWord::Iter,
+    TermWord::Join,
+    TermWord::Nest,
+    TermWord::True,
+    TermWord::Rule,
+    TermWord::When,
     TermWord::Here,
     TermWord::Pred,
-    TermWord::Set,
     TermWord::Unit,
-    TermWord::Int,
-    TermWord::String,
     TermWord::Bool,
     TermWord::Skip,
     TermWord::Fail,
-    TermWord::Bu,
-    TermWord::Td,
-    TermWord::Repeat,
-    TermWord::Given,
-    TermWord::Do,
-    TermWord::End,
 ];
+
+/// The words of 5 letters.
+const FIVE: [TermWord; 8] = [
+    TermWord::Union,
+    TermWord::Isect,
+    TermWord::Minus,
+    TermWord::False,
+    TermWord::Count,
+    TermWord::Block,
+    TermWord::Proof,
+    TermWord::Given,
+];
+
+/// The words of 6 letters.
+const SIX: [TermWord; 3] = [TermWord::Unnest, TermWord::String, TermWord::Repeat];
+
+/// The words of 7 letters.
+const SEVEN: [TermWord; 1] = [TermWord::Iterate];
 
 impl TermWord {
     /// The text of the word.
@@ -232,11 +248,34 @@ impl TermWord {
     }
 }
 
+/// The words of a length: a word is looked for among those of its own alone.
+#[tactic(auto, unfolding(crate::specs::TermWords::words_of_length, crate::specs::TermWords::term_words))]
+fn words_of_length(length: usize) -> &'static [TermWord]
+    ensures { result.now ≡ words_of_length length }
+{
+    match length {
+        1 => &ONE,
+        2 => &TWO,
+        3 => &THREE,
+        4 => &FOUR,
+        5 => &FIVE,
+        6 => &SIX,
+        7 => &SEVEN,
+        _ => &[],
+    }
+}
+
+/// The first of the words that is written so.
+fn written_so(words: &[TermWord], word: &str) -> Option<TermWord>
+    ensures { result ≡ find (λ w. bytes_eq (term_word_spelling w) word.now) words.now }
+{
+    words.iter().copied().find(|known| known.spelling() == word)
+}
+
 impl Alphabet for TermWord {
     ghost named = { term_word_named };
 
-    #[tactic(auto, unfolding(crate::specs::TermWords::term_word_named, crate::specs::TermWords::term_words))]
     fn named(word: &str) -> Option<TermWord> {
-        WORDS.iter().copied().find(|known| known.spelling() == word)
+        written_so(words_of_length(word.len()), word)
     }
 }

@@ -1,6 +1,6 @@
 -- The reader of a word reads it, and no sign is a word.
 use Rattle.std.proofs.Common.{◌≡◌, List, [], ◌∷◌, Option, Some, None, refl, sym, ap, subst, ◌∙◌}
-use Rattle.kola_base.specs.Lexemes.{Lexeme, LWord}
+use Rattle.kola_base.specs.Lexemes.{LWord}
 use Rattle.kola_base.specs.Placed.{Placed}
 use Rattle.kola_base.specs.Named.{Named, name_of, NameText, name_move, name_at}
 use Rattle.kola_parse.specs.Reading.{never, Good}

@@ -1,5 +1,5 @@
 -- What tests of a sign and of a word pass, in a grammar with the words W: each word is the one of its spelling.
-use Rattle.std.proofs.Common.{◌≡◌, ℕ, List, Bool, true, Option, Some, None, refl, sym, ap, subst, ◌∙◌}
+use Rattle.std.proofs.Common.{◌≡◌, ℕ, List, Bool, true, Option, Some, None, refl, sym, ap, ◌∙◌}
 use Rattle.kola_base.specs.Lexemes.{Lexeme, LWord, LNumber, LString, LSign}
 use Rattle.kola_base.specs.Placed.{Placed}
 use Rattle.kola_base.specs.Named.{name_in, name_of}

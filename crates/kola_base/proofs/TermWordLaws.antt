@@ -1,6 +1,5 @@
 -- Each word of terms and rules is the one of its spelling.
-use Rattle.std.proofs.Common.{◌≡◌, ℕ, List, map, Option, Some, refl, sym, ap, ◌∙◌}
-use Rattle.std.specs.Prelude.{codes}
+use Rattle.std.proofs.Common.{◌≡◌, ℕ, List, Some, refl}
 use Rattle.std.specs.Str.{bytes_eq}
 use Rattle.kola_base.specs.declared.term_word.TermWord.{TermWord}
 use Rattle.kola_base.specs.declared.term_word.TermWord.TheVariants as w

@@ -1,11 +1,10 @@
 -- Texts with their tokens, and one without, and the lists of signs and words.
-use Rattle.std.proofs.Common.{◌≡◌, ℕ, List, [], ◌∷◌, map, true, false, Some, None, refl, length, arith}
+use Rattle.std.proofs.Common.{◌≡◌, [], ◌∷◌, map, true, false, Some, None, refl, arith}
 use Rattle.std.specs.Prelude.{codes, ◌==◌}
 use Rattle.std.specs.List.{slice_split}
 use Rattle.kola_base.specs.declared.lex.Kind.TheVariants as kinds
 use Rattle.kola_base.specs.declared.lex.LexWhy.TheVariants.{BadByte}
 use Rattle.kola_base.specs.declared.scan.Sort.TheVariants as sorts
-use Rattle.kola_base.specs.declared.sign.Sign.TheVariants as s
 use Rattle.kola_base.specs.declared.term_word.TermWord.TheVariants as w
 use Rattle.kola_base.specs.Pieces.{class}
 use Rattle.kola_base.specs.Scanning.{first_piece}

@@ -18,3 +18,4 @@ pub mod Spelled
 pub mod Named
 pub mod NamedViews
 pub mod QueryWords
+pub mod CauseNames

@@ -6,12 +6,14 @@ ghost use Rattle.kola_base.specs.declared.lex.LexFault.TheVariants.{At, Memory};
 ghost use Rattle.kola_base.specs.declared.lex.LexWhy.{LexWhy};
 ghost use Rattle.kola_base.specs.declared.lex.Token.{Token};
 ghost use Rattle.kola_base.specs.Pieces.{IsLongest, NoPiece};
+ghost use Rattle.kola_base.specs.CauseNames.{lex_name};
 ghost use Rattle.kola_base.specs.Tokens.{kind_of, token_of, AreTokens, InOrder, IsFaultOf, IsSound, IsStuck, IsTokenIn, StopsAt};
 
 use crate::number::value_of;
 use crate::scan::{Sort, longest_piece};
 use crate::strings::string_fault;
 use std::alloc::{AllocError, Global};
+use std::fmt;
 use thiserror::Error;
 
 /// What a token is.
@@ -38,23 +40,39 @@ pub struct Token {
 }
 
 /// Why a text has no tokens.
-#[derive(Clone, Copy, Debug, PartialEq, Eq, Error)]
+#[derive(Clone, Copy, Debug, PartialEq, Eq)]
 pub enum LexWhy {
     /// No token begins with this byte and what follows it.
-    #[error("BadByte")]
     BadByte,
     /// A string does not end on its line; at its first quote.
-    #[error("OpenString")]
     OpenString,
     /// A backslash in a string begins no escape; at the backslash.
-    #[error("BadEscape")]
     BadEscape,
     /// A number is not one of 64 bits; at its first byte.
-    #[error("NumberTooLarge")]
     NumberTooLarge,
     /// A string has a byte that is of no UTF-8 character; at that byte.
-    #[error("NotUtf8")]
     NotUtf8,
+}
+
+impl LexWhy {
+    /// The cause's name, as it is printed.
+    pub fn name(self) -> &'static str
+        ensures { result.now ≡ lex_name self }
+    {
+        match self {
+            LexWhy::BadByte => "BadByte",
+            LexWhy::OpenString => "OpenString",
+            LexWhy::BadEscape => "BadEscape",
+            LexWhy::NumberTooLarge => "NumberTooLarge",
+            LexWhy::NotUtf8 => "NotUtf8",
+        }
+    }
+}
+
+impl fmt::Display for LexWhy {
+    fn fmt<W: fmt::Write>(&self, f: &mut fmt::Formatter<W>) -> fmt::Result {
+        f.write_str(self.name())
+    }
 }
 
 /// The first lexical fault of a text, or want of memory.

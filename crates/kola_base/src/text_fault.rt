@@ -2,26 +2,44 @@
 
 ghost use Rattle.std.specs.Prelude.{◌≡◌};
 ghost use Rattle.kola_base.specs.declared.text_fault.TextFault.TheVariants.{Memory};
+ghost use Rattle.kola_base.specs.CauseNames.{text_name};
 ghost use Rattle.kola_base.specs.Spelled.{text_why, of_lexer, is_stopped};
 
 use crate::lex::{LexFault, LexWhy};
 use crate::lexeme::Lexemes;
 use kola_parse::{Stop, Why};
 use std::alloc::AllocError;
+use std::fmt;
 use thiserror::Error;
 
 /// Why a text is none of its grammar.
-#[derive(Clone, Copy, Debug, PartialEq, Eq, Error)]
+#[derive(Clone, Copy, Debug, PartialEq, Eq)]
 pub enum TextWhy {
     /// The text has no tokens.
-    #[error("{0}")]
     Lex(LexWhy),
     /// No text of the grammar begins so.
-    #[error("Unexpected")]
     Unexpected,
     /// A text of the grammar begins so, but none within the limit on depth.
-    #[error("TooDeep")]
     TooDeep,
+}
+
+impl TextWhy {
+    /// The cause's name, as it is printed.
+    pub fn name(self) -> &'static str
+        ensures { result.now ≡ text_name self }
+    {
+        match self {
+            TextWhy::Lex(why) => why.name(),
+            TextWhy::Unexpected => "Unexpected",
+            TextWhy::TooDeep => "TooDeep",
+        }
+    }
+}
+
+impl fmt::Display for TextWhy {
+    fn fmt<W: fmt::Write>(&self, f: &mut fmt::Formatter<W>) -> fmt::Result {
+        f.write_str(self.name())
+    }
 }
 
 /// The first fault of a text that is none of its grammar, or want of memory.

@@ -17,3 +17,4 @@ pub mod SchemaFaults
 pub mod FirstMarks
 pub mod PlainSchemas
 pub mod SchemaAccepted
+pub mod CauseNames

@@ -1,4 +1,8 @@
 //! Why a text is no database of a schema.
+
+ghost use Rattle.std.specs.Prelude.{◌≡◌};
+ghost use Rattle.kola_load.specs.CauseNames.{db_name};
+
 use kola_core::{Memory, Name, Text};
 use std::alloc::AllocFailed;
 
@@ -91,6 +95,29 @@ pub enum DbFault {
     },
     /// Memory is wanted.
     Memory,
+}
+
+impl DbFault {
+    /// The cause's name, as it is printed, without its fields.
+    pub fn name(&self) -> &'static str
+        ensures { result.now ≡ db_name self.now }
+    {
+        match self {
+            DbFault::NotJson => "NotJson",
+            DbFault::NotObject => "NotObject",
+            DbFault::UnknownExtent { .. } => "UnknownExtent",
+            DbFault::NotAnArray { .. } => "NotAnArray",
+            DbFault::NotAnObject { .. } => "NotAnObject",
+            DbFault::BadId { .. } => "BadId",
+            DbFault::TwiceId { .. } => "TwiceId",
+            DbFault::UnknownAttribute { .. } => "UnknownAttribute",
+            DbFault::MissingAttribute { .. } => "MissingAttribute",
+            DbFault::WrongType { .. } => "WrongType",
+            DbFault::NoSuchObject { .. } => "NoSuchObject",
+            DbFault::KeyRepeats { .. } => "KeyRepeats",
+            DbFault::Memory => "Memory",
+        }
+    }
 }
 
 impl From<Memory> for DbFault {

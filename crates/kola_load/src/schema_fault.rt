@@ -1,10 +1,12 @@
 //! Why a text is no schema, and where.
 
 ghost use Rattle.std.specs.Prelude.{◌≡◌};
+ghost use Rattle.kola_load.specs.CauseNames.{schema_name};
 ghost use Rattle.kola_load.specs.declared.schema_fault.SchemaFault.TheVariants.{Memory};
 
 use kola_base::LexWhy;
 use std::alloc::AllocError;
+use std::fmt;
 use thiserror::Error;
 
 /// Why a name is at fault.
@@ -28,29 +30,45 @@ pub struct Mark {
 }
 
 /// Why a text is no schema.
-#[derive(Clone, Copy, Debug, PartialEq, Eq, Error)]
+#[derive(Clone, Copy, Debug, PartialEq, Eq)]
 pub enum SchemaWhy {
     /// The text has no tokens.
-    #[error("{0}")]
     Lex(LexWhy),
     /// No schema begins with the tokens up to this one.
-    #[error("Unexpected")]
     Unexpected,
     /// A schema begins with the tokens up to this one, but none whose types nest at most 100 deep.
-    #[error("TooDeep")]
     TooDeep,
     /// A class name does not start with a capital letter, or an extent is named by a word of queries, terms or rules.
-    #[error("NameNotAllowed")]
     NameNotAllowed,
     /// A class, an extent or an attribute of one class is named so before; at the second one.
-    #[error("TwiceDefined")]
     TwiceDefined,
     /// A type names no class.
-    #[error("UnknownClass")]
     UnknownClass,
     /// A key names no attribute of its class.
-    #[error("UnknownKeyAttribute")]
     UnknownKeyAttribute,
+}
+
+impl SchemaWhy {
+    /// The cause's name, as it is printed.
+    pub fn name(self) -> &'static str
+        ensures { result.now ≡ schema_name self }
+    {
+        match self {
+            SchemaWhy::Lex(why) => why.name(),
+            SchemaWhy::Unexpected => "Unexpected",
+            SchemaWhy::TooDeep => "TooDeep",
+            SchemaWhy::NameNotAllowed => "NameNotAllowed",
+            SchemaWhy::TwiceDefined => "TwiceDefined",
+            SchemaWhy::UnknownClass => "UnknownClass",
+            SchemaWhy::UnknownKeyAttribute => "UnknownKeyAttribute",
+        }
+    }
+}
+
+impl fmt::Display for SchemaWhy {
+    fn fmt<W: fmt::Write>(&self, f: &mut fmt::Formatter<W>) -> fmt::Result {
+        f.write_str(self.name())
+    }
 }
 
 /// The first fault of a text that is no schema, or want of memory.

@@ -1,11 +1,11 @@
 //! The loads.
 
 use kola_core::{Memory, Name, Names, Text};
+use kola_database::{Db, ObjectDef};
+use kola_schema::{ClassDef, Keys, Schema, classes_ok};
 use kola_term::{Fun, MetaCtx, Term, TypeFault, make, out_type};
 use kola_text::{TextFault, print_term, read_term};
-use kola_values::{
-    ClassDef, Db, Fields, Keys, ObjectDef, Schema, Set, Ty, Value, ValueFields, classes_ok,
-};
+use kola_values::{Fields, Set, Ty, Value, ValueFields};
 use std::alloc::{AllocError, Global};
 
 /// The count that a load of this name and size answers; none where no load has the name.

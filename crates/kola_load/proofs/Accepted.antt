@@ -14,16 +14,16 @@ use Rattle.kola_values.specs.Order.{same}
 use Rattle.kola_values.specs.Sets.{Each, any, has, canon, set_of}
 use Rattle.kola_values.specs.Databases.{Class, Object, Classes, Objects, look_up, value_or_unit}
 use Rattle.kola_core.specs.NameLists.{is_listed}
-use Rattle.kola_values.specs.Schemas.{are_distinct, names_of, class_names, extent_names, class_named, is_class, is_schema}
-use Rattle.kola_values.specs.Meets.{Meets, object_values}
-use Rattle.kola_values.specs.MeetsTests.{typed_by, IsHeld, no_two, same_object, is_value_of, are_typed, are_whole, fits_class, agree_at, clash, all_fit, keys_are_met, meets}
-use Rattle.kola_values.specs.MeetsTests as tests
+use Rattle.kola_schema.specs.Schemas.{are_distinct, names_of, class_names, extent_names, class_named, is_class, is_schema}
+use Rattle.kola_schema.specs.Meets.{Meets, object_values}
+use Rattle.kola_database.specs.MeetsTests.{typed_by, IsHeld, no_two, same_object, is_value_of, are_typed, are_whole, fits_class, agree_at, clash, all_fit, keys_are_met, meets}
+use Rattle.kola_database.specs.MeetsTests as tests
 use Rattle.std.proofs.lemmas.List.Folds.{find-append}
 use Rattle.kola_values.proofs.Anys.{same_itself, items-of_items, equal}
 use Rattle.kola_values.proofs.Each.{each_canon}
-use Rattle.kola_values.proofs.Meeting.{In, from_any, value_of_object, meets_from}
-use Rattle.kola_values.proofs.MeetingTypes.{other_class}
-use Rattle.kola_values.proofs.NameTests.{both_false, not_true}
+use Rattle.kola_database.proofs.Meeting.{In, from_any, value_of_object, meets_from}
+use Rattle.kola_database.proofs.MeetingTypes.{other_class}
+use Rattle.kola_values.proofs.Truth.{both_false, not_true}
 use Rattle.kola_values.proofs.SameTypes.{and_true, both_true, name_equal, name_itself}
 use Rattle.kola_load.specs.Json.{list_of, elements, integer_of, id_of, as_id, own_id}
 use Rattle.kola_load.specs.Written.{whole, value_of, references, extent_of, is_id, is_taken, is_there, id_in, attribute_in, object_in, objects_in, written}

@@ -4,9 +4,9 @@ use Rattle.std.specs.Str.{bytes_eq}
 use Rattle.std.proofs.lemmas.List.{take-map, take-append-drop, drop_more}
 use Rattle.kola_values.specs.Databases.{Class, Classes}
 use Rattle.kola_core.specs.NameLists.{is_listed}
-use Rattle.kola_values.specs.Schemas.{are_distinct, class_names, class_named}
-use Rattle.kola_values.proofs.NameTests.{both_false}
-use Rattle.kola_values.proofs.Places.{fresh}
+use Rattle.kola_schema.specs.Schemas.{are_distinct, class_names, class_named}
+use Rattle.kola_values.proofs.Truth.{both_false}
+use Rattle.kola_schema.proofs.Places.{fresh}
 use Rattle.kola_values.proofs.SameTypes.{name_itself}
 
 class_after : (T R : Classes) (k : Class) → is_listed k.name (class_names T) ≡ false → class_named (T ++ k ∷ R) k.name ≡ Some k

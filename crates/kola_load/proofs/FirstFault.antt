@@ -8,7 +8,7 @@ use Rattle.kola_values.specs.Databases.{Class, Object, Classes, Objects}
 use Rattle.kola_load.specs.Json.{elements, own_id}
 use Rattle.kola_load.specs.Written.{id_in, written, extent_of, is_there, objects_in}
 use Rattle.kola_load.specs.Loaded.{Reads, IsLoaded, IsFirstFault, OneAnswer}
-use Rattle.kola_values.specs.Stored.{Database}
+use Rattle.kola_database.specs.Stored.{Database}
 use Rattle.kola_load.specs.Loading.{Test, unless, first_of, first_among, members_fault, id_fault, element_fault, array_fault, extent_fault, value_fault, attribute_fault, object_fault, objects_fault, key_fault, keys_fault, db_fault, or_objects, db_of}
 use Rattle.kola_load.specs.declared.fault.DbFault.{DbFault}
 use Rattle.kola_load.specs.declared.fault.DbFault.TheVariants.{NotJson, NotObject, UnknownExtent, NotAnArray, NotAnObject, TwiceId, UnknownAttribute, WrongType, NoSuchObject, KeyRepeats, Memory}

@@ -11,11 +11,11 @@ use Rattle.std.proofs.lemmas.Map.Text.{btree_map_updates_text}
 use Rattle.serde_json.specs.Data.{Data}
 use Rattle.kola_values.specs.Databases.{Class, Classes}
 use Rattle.kola_core.specs.NameLists.{is_listed}
-use Rattle.kola_values.specs.Schemas.{class_named, class_names}
+use Rattle.kola_schema.specs.Schemas.{class_named, class_names}
 use Rattle.std.proofs.lemmas.List.{take_more}
-use Rattle.kola_values.specs.Schemas.{are_distinct}
+use Rattle.kola_schema.specs.Schemas.{are_distinct}
 use Rattle.kola_values.proofs.Anys.{bool_same}
-use Rattle.kola_values.proofs.NameTests.{both_false}
+use Rattle.kola_values.proofs.Truth.{both_false}
 use Rattle.kola_values.proofs.SameTypes.{name_equal, name_itself}
 use Rattle.kola_load.proofs.ClassPlaces.{new_name}
 use Rattle.kola_load.specs.Ids.{AreIds, AreAllIds, there}

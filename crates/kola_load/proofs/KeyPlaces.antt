@@ -5,13 +5,13 @@ use Rattle.serde_json.specs.Data.{Data}
 use Rattle.kola_core.specs.declared.name.Name.{Name}
 use Rattle.kola_values.specs.Types.{TypeTree}
 use Rattle.kola_values.specs.Databases.{Class, Object, Classes, Objects, value_or_unit}
-use Rattle.kola_values.specs.KeyedObjects.{value_at_name}
-use Rattle.kola_values.specs.Schemas.{names_of}
+use Rattle.kola_database.specs.KeyedObjects.{value_at_name}
+use Rattle.kola_schema.specs.Schemas.{names_of}
 use Rattle.kola_values.specs.Sets.{Each}
 use Rattle.kola_values.specs.Views.{type_entry}
 use Rattle.kola_values.specs.declared.ty.Ty.{Ty}
 use Rattle.kola_core.proofs.NameLists.{place_seen}
-use Rattle.kola_values.proofs.Places.{entry_at_place}
+use Rattle.kola_schema.proofs.Places.{entry_at_place}
 use Rattle.kola_load.specs.KeyViews.{value_at_place, AreOfClass, AreOfClasses}
 use Rattle.kola_load.specs.Written.{attribute_in, object_in, objects_in, extent_of}
 

@@ -15,8 +15,8 @@ use Rattle.serde_json.specs.declared.value.Value.{Value}
 use Rattle.kola_values.specs.Order.{name_cmp}
 use Rattle.kola_values.specs.Databases.{Class, Classes, look_up, attribute_type, extent_class}
 use Rattle.kola_core.specs.NameLists.{is_listed}
-use Rattle.kola_values.specs.Schemas.{names_of, class_named, extent_names}
-use Rattle.kola_values.proofs.Schemas.{attribute_of_class}
+use Rattle.kola_schema.specs.Schemas.{names_of, class_named, extent_names}
+use Rattle.kola_schema.proofs.Schemas.{attribute_of_class}
 use Rattle.kola_load.specs.Json.{names_of_members, lesser, least}
 
 -- ---- the least of a list that rises

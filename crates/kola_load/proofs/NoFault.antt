@@ -2,10 +2,10 @@
 use Rattle.std.proofs.Common.{◌≡◌, ◌⊎◌, inl, inr, Bool, true, false, not, cond, ◌&&◌, ◌||◌, List, [], ◌∷◌, ◌++◌, Option, Some, None, map, flat_map, option_map, option_and_then, refl, ap, subst, ◌∙◌}
 use Rattle.std.specs.List.{find, list_any, list_all}
 use Rattle.std.specs.Option.{option_or}
-use Rattle.kola_values.specs.MeetsTests.{no_two}
+use Rattle.kola_database.specs.MeetsTests.{no_two}
 use Rattle.std.proofs.lemmas.List.Folds.{list_any-append}
-use Rattle.kola_values.proofs.NameTests.{both_false, not_true}
-use Rattle.kola_values.proofs.Meeting.{In}
+use Rattle.kola_values.proofs.Truth.{both_false, not_true}
+use Rattle.kola_database.proofs.Meeting.{In}
 use Rattle.kola_values.proofs.SameTypes.{and_true, both_true}
 use Rattle.kola_load.specs.Loading.{Test, unless, first_of, first_among}
 use Rattle.kola_load.specs.declared.fault.DbFault.{DbFault}

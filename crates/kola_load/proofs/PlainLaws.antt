@@ -5,7 +5,7 @@ use Rattle.std.specs.Str.{bytes_eq}
 use Rattle.kola_base.specs.Placed.{Placed}
 use Rattle.kola_values.specs.Types.{TypeTree}
 use Rattle.kola_core.specs.NameLists.{is_listed}
-use Rattle.kola_values.specs.Schemas.{are_distinct, names_of, class_names as plain_class_names, extent_names, is_stored_type, is_key, is_class, is_schema}
+use Rattle.kola_schema.specs.Schemas.{are_distinct, names_of, class_names as plain_class_names, extent_names, is_stored_type, is_key, is_class, is_schema}
 use Rattle.kola_values.proofs.SameTypes.{name_equal, name_itself}
 use Rattle.kola_load.specs.SchemaTree.{Named, TypeAt, AInt, AStr, ABool, ASet, AClass, AttributeAt, ClassAt}
 use Rattle.kola_load.specs.SchemaFaults.{mark, Among, names, class_names, extents, attributes, IsTwice, IsUnknown, IsUnknownKey, StandsInClass, Stands}

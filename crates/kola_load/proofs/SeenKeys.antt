@@ -10,9 +10,9 @@ use Rattle.std.proofs.lemmas.List.Folds.{find-append}
 use Rattle.kola_values.specs.Values.{ValueTree}
 use Rattle.kola_values.specs.Order.{cmp, same}
 use Rattle.kola_values.specs.Databases.{Class, Object, Objects}
-use Rattle.kola_values.specs.KeyedObjects.{value_at_name, cmp_keyed, same_keyed}
-use Rattle.kola_values.specs.MeetsTests.{agree_at}
-use Rattle.kola_values.proofs.KeyedObjects.{cmp_keyed_total, same_keyed_flips}
+use Rattle.kola_database.specs.KeyedObjects.{value_at_name, cmp_keyed, same_keyed}
+use Rattle.kola_database.specs.MeetsTests.{agree_at}
+use Rattle.kola_database.proofs.KeyedObjects.{cmp_keyed_total, same_keyed_flips}
 use Rattle.kola_load.proofs.NoFault.{none_mapped}
 use Rattle.kola_load.specs.KeyViews.{key_tree, key_cmp}
 use Rattle.kola_load.specs.Loading.{repeat_fault}

@@ -6,11 +6,11 @@ use Rattle.std.specs.Ordering.{eq_by_cmp}
 use Rattle.std.specs.Cmp.{IsTotalOrder, IsEquivalence, on_total}
 use Rattle.std.proofs.lemmas.Cmp.{lists_total, eq_by_cmp_equiv}
 use Rattle.kola_values.specs.Values.{ValueTree}
-use Rattle.kola_values.specs.KeyedObjects.{cmp_keyed}
+use Rattle.kola_database.specs.KeyedObjects.{cmp_keyed}
 use Rattle.kola_values.specs.Models.Total.{cmp_total}
 use Rattle.kola_values.specs.Views.{value_at}
 use Rattle.kola_values.specs.Databases.{Class, Object, Classes, Objects, value_or_unit}
-use Rattle.kola_values.specs.Schemas.{names_of}
+use Rattle.kola_schema.specs.Schemas.{names_of}
 use Rattle.kola_values.specs.Sets.{Each}
 use Rattle.kola_load.specs.Loading.{Test, keys_fault}
 use Rattle.kola_load.specs.declared.keys.KeyOf.{KeyOf}

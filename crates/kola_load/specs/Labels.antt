@@ -2,7 +2,7 @@
 use Rattle.std.specs.Prelude.{ℕ, List, [], ◌∷◌, codes}
 use Rattle.std.specs.Option.{option_map_or}
 use Rattle.kola_values.specs.Databases.{Class, Classes}
-use Rattle.kola_values.specs.Schemas.{names_of, class_named}
+use Rattle.kola_schema.specs.Schemas.{names_of, class_named}
 
 -- those of the class of the name
 abbrev pub labels : Classes → List ℕ → List (List ℕ)

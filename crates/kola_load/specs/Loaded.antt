@@ -5,7 +5,7 @@ use Rattle.std.specs.Str.{IsUtf8}
 use Rattle.serde_json.specs.Data.{Data}
 use Rattle.serde_json.specs.Read.{read}
 use Rattle.kola_values.specs.Databases.{Classes, Objects}
-use Rattle.kola_values.specs.Stored.{Database, IsUnder}
+use Rattle.kola_database.specs.Stored.{Database, IsUnder}
 use Rattle.kola_load.specs.Loading.{db_of}
 use Rattle.kola_load.specs.declared.fault.DbFault.{DbFault}
 use Rattle.kola_load.specs.declared.fault.DbFault.TheVariants.{NotJson, Memory}

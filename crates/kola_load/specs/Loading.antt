@@ -6,8 +6,8 @@ use Rattle.serde_json.specs.Data.{Data}
 use Rattle.serde_json.specs.Find.{get}
 use Rattle.kola_values.specs.Types.{TypeTree}
 use Rattle.kola_values.specs.Databases.{Class, Object, Classes, Objects}
-use Rattle.kola_values.specs.Schemas.{names_of, extent_names}
-use Rattle.kola_values.specs.MeetsTests.{agree_at}
+use Rattle.kola_schema.specs.Schemas.{names_of, extent_names}
+use Rattle.kola_database.specs.MeetsTests.{agree_at}
 use Rattle.kola_load.specs.Json.{is_object, is_array, elements, names_beside, least, own_id}
 use Rattle.kola_load.specs.Written.{value_of, references, extent_of, is_taken, is_there, id_in, objects_in, written}
 use Rattle.kola_load.specs.declared.fault.DbFault.{DbFault}

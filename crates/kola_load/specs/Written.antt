@@ -8,7 +8,7 @@ use Rattle.kola_values.specs.Values.{ValueTree, VInt, VBool, VStr, VObj}
 use Rattle.kola_values.specs.Types.{TypeTree, TInt, TStr, TBool, TClass, TSet}
 use Rattle.kola_values.specs.Sets.{set_of}
 use Rattle.kola_values.specs.Databases.{Class, Object, Classes, Objects, value_or_unit}
-use Rattle.kola_values.specs.Schemas.{class_named}
+use Rattle.kola_schema.specs.Schemas.{class_named}
 use Rattle.kola_load.specs.Json.{list_of, elements, integer_of, id_of, own_id}
 
 -- ---- values

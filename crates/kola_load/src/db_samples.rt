@@ -1,6 +1,7 @@
 //! A schema of persons and vehicles, made part by part, and texts of its databases, for tests.
 use kola_core::{Memory, Name, Names};
-use kola_values::{ClassDef, Fields, Keys, Schema, Ty, classes_ok};
+use kola_schema::{ClassDef, Keys, Schema, classes_ok};
+use kola_values::{Fields, Ty};
 use std::alloc::Global;
 
 // A key of these attributes.

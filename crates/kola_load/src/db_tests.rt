@@ -2,7 +2,8 @@
 use crate::db_samples::{schema, text};
 use crate::{DbFault, read_db};
 use kola_core::{Memory, Name};
-use kola_values::{Db, Schema};
+use kola_database::Db;
+use kola_schema::Schema;
 use std::alloc::Global;
 use std::test::Fail;
 

@@ -1,7 +1,7 @@
 //! The extents of a database: arrays of objects, each with an id that no earlier element has.
 ghost use Rattle.std.specs.Prelude.{◌≡◌, ◌++◌, ◌∷◌, [], map};
 ghost use Rattle.serde_json.specs.View.{view};
-ghost use Rattle.kola_values.specs.SchemaViews.{class_tree};
+ghost use Rattle.kola_schema.specs.SchemaViews.{class_tree};
 ghost use Rattle.kola_load.specs.Calls.{Finds, Nothing};
 ghost use Rattle.kola_load.specs.Ids.{AreIds, AreAllIds};
 ghost use Rattle.kola_load.specs.Loading.{first_of, first_among, element_fault, extent_fault};
@@ -10,7 +10,7 @@ ghost use Rattle.kola_load.specs.Written.{extent_of};
 use crate::DbFault;
 use crate::ids::Ids;
 use crate::json::own_id;
-use kola_values::{ClassDef, Schema};
+use kola_schema::{ClassDef, Schema};
 use serde_json::Value;
 use std::alloc::Global;
 use std::collections::BTreeSet;

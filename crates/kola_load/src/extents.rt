@@ -6,7 +6,7 @@ ghost use Rattle.kola_load.specs.Loading.{members_fault};
 use crate::DbFault;
 use crate::names::{Knows, least_unknown};
 use kola_core::{Memory, Name};
-use kola_values::Schema;
+use kola_schema::Schema;
 use serde_json::Value;
 use std::alloc::Global;
 
@@ -17,7 +17,7 @@ struct Extents<'a> {
 }
 
 impl Knows for Extents<'_> {
-    ghost use Rattle.kola_values.specs.Schemas.{extent_names};
+    ghost use Rattle.kola_schema.specs.Schemas.{extent_names};
 
     ghost names = { λ e. extent_names e.schema.now };
 

@@ -4,9 +4,9 @@ ghost use Rattle.std.specs.Str.{bytes_eq};
 ghost use Rattle.std.specs.Cmp.Lexicographic.{slice_cmp};
 ghost use Rattle.kola_values.specs.Values.{VUnit};
 ghost use Rattle.kola_values.specs.Order.{cmp};
-ghost use Rattle.kola_values.specs.Schemas.{names_of};
-ghost use Rattle.kola_values.specs.ObjectViews.{object_tree};
-ghost use Rattle.kola_values.specs.SchemaViews.{class_tree};
+ghost use Rattle.kola_schema.specs.Schemas.{names_of};
+ghost use Rattle.kola_database.specs.ObjectViews.{object_tree};
+ghost use Rattle.kola_schema.specs.SchemaViews.{class_tree};
 ghost use Rattle.kola_values.specs.Views.{value_tree, value_at};
 ghost use Rattle.kola_load.specs.Calls.{Finds, Nothing};
 ghost use Rattle.kola_load.specs.KeyViews.{key_tree, key_cmp, value_at_place, AreOfClass, AreOfClasses, lists_fault};
@@ -14,7 +14,9 @@ ghost use Rattle.kola_load.specs.Loading.{first_among, repeat_fault, keys_fault}
 
 use crate::DbFault;
 use kola_core::{Memory, Name, Names};
-use kola_values::{ClassDef, ObjectDef, Schema, Ty, Value, cmp_values};
+use kola_database::ObjectDef;
+use kola_schema::{ClassDef, Schema};
+use kola_values::{Ty, Value, cmp_values};
 use std::alloc::Global;
 use std::cmp::Ordering;
 use std::collections::BTreeMap;

@@ -1,9 +1,9 @@
 //! The objects of a database: each has exactly the attributes of its class, each of its type, and its references name objects.
 ghost use Rattle.std.specs.Prelude.{◌≡◌, codes, ◌∷◌, [], map, Some, IfOk};
 ghost use Rattle.serde_json.specs.View.{view};
-ghost use Rattle.kola_values.specs.Schemas.{class_named, names_of};
-ghost use Rattle.kola_values.specs.SchemaViews.{class_tree};
-ghost use Rattle.kola_values.specs.ObjectViews.{object_tree};
+ghost use Rattle.kola_schema.specs.Schemas.{class_named, names_of};
+ghost use Rattle.kola_schema.specs.SchemaViews.{class_tree};
+ghost use Rattle.kola_database.specs.ObjectViews.{object_tree};
 ghost use Rattle.kola_values.specs.Views.{type_entry, value_entry};
 ghost use Rattle.kola_load.specs.Calls.{Finds};
 ghost use Rattle.kola_load.specs.Ids.{there};
@@ -17,7 +17,9 @@ use crate::json::own_id;
 use crate::names::{Knows, least_unknown};
 use crate::values::{missing, value_of};
 use kola_core::{Memory, Name, Text};
-use kola_values::{ClassDef, ObjectDef, Schema, Ty, Value, ValueFields};
+use kola_database::ObjectDef;
+use kola_schema::{ClassDef, Schema};
+use kola_values::{Ty, Value, ValueFields};
 use serde_json::Value as Json;
 use std::alloc::Global;
 

@@ -2,14 +2,15 @@
 
 ghost use Rattle.std.specs.Prelude.{◌≡◌, map, IfOk};
 ghost use Rattle.kola_values.specs.Views.{type_tree};
-ghost use Rattle.kola_values.specs.SchemaViews.{class_tree};
+ghost use Rattle.kola_schema.specs.SchemaViews.{class_tree};
 ghost use Rattle.kola_load.specs.SchemaFaults.{names};
 ghost use Rattle.kola_load.specs.SchemaViews.{named_view, type_view, key_view, attribute_view, class_view};
 ghost use Rattle.kola_load.specs.PlainSchemas.{plain_type, plain_attribute, plain_class, plain};
 
 use crate::schema_tree::{AttributeAt, ClassAt, Named, TypeAt};
 use kola_core::{Items, Memory, Name, Names};
-use kola_values::{BoxedTy, ClassDef, Fields, Keys, Ty};
+use kola_schema::{ClassDef, Keys};
+use kola_values::{BoxedTy, Fields, Ty};
 use std::alloc::Global;
 
 fn type_of(alloc: Global, ty: &TypeAt<'_>) -> Result<Ty, Memory>

@@ -16,7 +16,7 @@ use crate::schema_syntax::schema_of;
 use crate::schema_tree::ClassAt;
 use kola_base::{LexFault, Lexemes, tokens};
 use kola_parse::{Stop, Why};
-use kola_values::Schema;
+use kola_schema::Schema;
 use std::alloc::Global;
 
 /// How many sets may nest in a type.

@@ -7,7 +7,7 @@ use Rattle.std.specs.Str.{bytes_eq}
 use Rattle.kola_values.specs.Order.{same}
 use Rattle.kola_values.specs.Sets.{any, has, Each, set_of}
 use Rattle.kola_values.specs.Databases.{Classes, Objects, Object, HasType, attribute_of, attribute_type, extent_class, objects_of, value_or_unit, look_up}
-use Rattle.kola_values.specs.Meets.{Meets, FitsClass}
+use Rattle.kola_schema.specs.Meets.{Meets, FitsClass}
 use Rattle.kola_values.proofs.Anys.{equal, each_has}
 use Rattle.kola_values.proofs.Each.{set_typed}
 use Rattle.kola_term.specs.Terms.{ConstTree, CInt, CBool, CStr, CSet, CExtent, CMeta}

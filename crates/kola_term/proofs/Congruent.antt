@@ -5,7 +5,7 @@ use Rattle.kola_values.specs.Types.{TypeTree, TSet, TPair}
 use Rattle.kola_values.specs.Order.{same}
 use Rattle.kola_values.specs.Sets.{members, set_of}
 use Rattle.kola_values.specs.Databases.{Classes, Objects, HasType}
-use Rattle.kola_values.specs.Meets.{Meets}
+use Rattle.kola_schema.specs.Meets.{Meets}
 use Rattle.kola_values.proofs.Anys.{any_agree}
 use Rattle.kola_values.proofs.Each.{kept_agree, map_agree, flat_map_agree, all_agree}
 use Rattle.kola_values.proofs.Typed.{members_typed}

@@ -2,7 +2,7 @@
 use Rattle.std.proofs.Common.{◌≡◌, ℕ, zero, suc, Option, Some, None, refl, sym, ap, ◌∙◌, subst, option_and_then, option_map, List, [], ◌∷◌}
 use Rattle.kola_values.specs.Types.{TypeTree, TSet, TPair}
 use Rattle.kola_values.specs.Databases.{Classes, Objects}
-use Rattle.kola_values.specs.Meets.{Meets}
+use Rattle.kola_schema.specs.Meets.{Meets}
 use Rattle.kola_term.specs.Terms.{FComp, FPair, FTimes, FK, FC, FIf, FIterate, FIter, FJoin, FNest, FUnnest, PAt, PAnd, POr, PNot, PInv, PCP, PEx, PFa, TermTree, TermF, TermP, TermC}
 use Rattle.kola_term.specs.Typing.{Context, out, is_typed, const_type, first_type, second_type, member_type, iter_type, join_type, the_if, pair_of, one_of, nest_of}
 use Rattle.kola_term.specs.Agreement.{Agree}

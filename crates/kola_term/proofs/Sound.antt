@@ -5,7 +5,7 @@ use Rattle.kola_values.specs.Types.{TypeTree, TClass, TSet, TPair}
 use Rattle.kola_values.specs.Order.{same}
 use Rattle.kola_values.specs.Sets.{has, members, Each}
 use Rattle.kola_values.specs.Databases.{Classes, Objects, HasType, attribute_of}
-use Rattle.kola_values.specs.Meets.{Meets}
+use Rattle.kola_schema.specs.Meets.{Meets}
 use Rattle.kola_values.proofs.Each.{set_typed, each_map, each_filter, each_flat_map, each_append}
 use Rattle.kola_values.proofs.Typed.{members_typed}
 use Rattle.kola_term.specs.Terms.{FunTree, FId, FFst, FSnd, FFlat, FUnion, FIsect, FMinus, FAttr, FComp, FPair, FTimes, FK, FC, FIf, FIterate, FIter, FJoin, FNest, FUnnest, FMeta}

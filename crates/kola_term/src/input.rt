@@ -22,7 +22,8 @@ use crate::place::PlaceFault;
 use crate::term::{Fun, Pred, Term};
 use crate::unlimited::{const_type, out_type_without_limit};
 use kola_core::{Memory, Path};
-use kola_values::{Schema, Ty};
+use kola_schema::Schema;
+use kola_values::Ty;
 use std::alloc::Global;
 
 /// A constant's type with the type behind it.

@@ -4,7 +4,7 @@ ghost use Rattle.std.specs.Prelude.{◌≡◌, IfOk, option_and_then};
 ghost use Rattle.std.specs.Option.{option_map};
 ghost use Rattle.kola_values.specs.Types.{TSet, TPair};
 ghost use Rattle.kola_values.specs.Views.{type_tree};
-ghost use Rattle.kola_values.specs.SchemaViews.{type_at};
+ghost use Rattle.kola_schema.specs.SchemaViews.{type_at};
 ghost use Rattle.kola_term.specs.Typing.{first_type, second_type, member_type, twin_type, iter_type, join_type, pair_of};
 
 use kola_core::Memory;

@@ -5,7 +5,7 @@ ghost use Rattle.std.specs.Option.{option_map};
 ghost use Rattle.kola_values.specs.Types.{TBool, TSet, TPair};
 ghost use Rattle.kola_values.specs.Databases.{look_up};
 ghost use Rattle.kola_values.specs.Views.{type_tree};
-ghost use Rattle.kola_values.specs.SchemaViews.{type_at};
+ghost use Rattle.kola_schema.specs.SchemaViews.{type_at};
 ghost use Rattle.kola_term.specs.Terms.{CInt, CSet, CExtent};
 ghost use Rattle.kola_term.specs.Typing.{attr_at, fun_of};
 ghost use Rattle.kola_term.specs.Faults.{NotThisInput, lacks, attr_own, fun_own, pred_own};
@@ -19,7 +19,8 @@ use crate::meta::{MetaCtx, MetaTy, declared};
 use crate::size::{is_small, is_small_nest, is_small_pair, is_small_set, is_small_set_of_pairs};
 use crate::typing::{TypeFault, TypeWhy, refused};
 use kola_core::Name;
-use kola_values::{Schema, Ty};
+use kola_schema::Schema;
+use kola_values::Ty;
 use std::alloc::Global;
 
 /// What a term is typed by: the schema, the variables, and whether output types of more than 4,096 nodes are refused.

@@ -4,7 +4,7 @@ ghost use Rattle.std.specs.Prelude.{◌≡◌, ℕ, List, [], Some, ◌⊎◌};
 ghost use Rattle.kola_values.specs.Types.{TypeTree};
 ghost use Rattle.kola_values.specs.Values.{ValueTree};
 ghost use Rattle.kola_values.specs.Databases.{Classes, Objects, HasType};
-ghost use Rattle.kola_values.specs.Meets.{Meets};
+ghost use Rattle.kola_schema.specs.Meets.{Meets};
 ghost use Rattle.kola_term.specs.Terms.{FunTree, TermTree};
 ghost use Rattle.kola_term.specs.Meaning.{den};
 ghost use Rattle.kola_term.specs.Typing.{Context, out};

@@ -4,7 +4,8 @@ use crate::{
     out_type_without_limit, replace_at,
 };
 use kola_core::{Items, Memory, Path};
-use kola_values::{Schema, Set, Ty, Value};
+use kola_schema::Schema;
+use kola_values::{Set, Ty, Value};
 use std::alloc::Global;
 use std::test::Fail;
 

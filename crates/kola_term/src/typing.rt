@@ -11,7 +11,8 @@ use crate::judge::Judge;
 use crate::meta::MetaCtx;
 use crate::term::{Fun, Pred};
 use kola_core::{Memory, Path};
-use kola_values::{Schema, Ty};
+use kola_schema::Schema;
+use kola_values::Ty;
 use std::alloc::Global;
 
 /// Why a node of a term has no type.

@@ -5,7 +5,8 @@ use crate::{
     pred_ok, pred_ok_without_limit,
 };
 use kola_core::{Memory, Name};
-use kola_values::{Schema, Ty};
+use kola_schema::Schema;
+use kola_values::Ty;
 use std::alloc::Global;
 use std::test::Fail;
 

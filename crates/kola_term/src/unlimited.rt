@@ -13,7 +13,8 @@ use crate::meta::MetaCtx;
 use crate::term::{Fun, Pred};
 use crate::typing::TypeFault;
 use kola_core::Memory;
-use kola_values::{Schema, Ty};
+use kola_schema::Schema;
+use kola_values::Ty;
 use std::alloc::{AllocError, Global};
 
 /// The output type of a function at an input type, however large; `None` exactly where it is not typed there.

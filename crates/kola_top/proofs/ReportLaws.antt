@@ -2,7 +2,7 @@
 use Rattle.std.proofs.Common.{◌≡◌, ℕ, List, filter, map, length, sym, ap, ◌∙◌}
 use Rattle.kola_values.specs.Values.{ValueTree, VInt, VSet, of_items}
 use Rattle.kola_values.specs.Sets.{canon}
-use Rattle.kola_values.specs.Spelling.{value_spelling}
+use Rattle.kola_canon.specs.Spelling.{value_spelling}
 use Rattle.kola_term.specs.Terms.{CSet, FId, FSnd, FComp, FPair, FK, FIter}
 use Rattle.kola_text.specs.Spelling.{fun_spelling}
 use Rattle.kola_top.specs.SelectForm.{SelectForm}

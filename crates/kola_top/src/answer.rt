@@ -2,7 +2,7 @@
 
 ghost use Rattle.std.specs.Prelude.{◌≡◌, ◌≤◌, ◌<◌, ℕ, List, IfOk, IfSome, IsTrue, Some, length, filter};
 ghost use Rattle.kola_values.specs.Values.{VSet, of_items};
-ghost use Rattle.kola_values.specs.Spelling.{value_spelling};
+ghost use Rattle.kola_canon.specs.Spelling.{value_spelling};
 ghost use Rattle.kola_term.specs.Terms.{CSet, FId, FSnd, FComp, FPair, FK, FIter};
 ghost use Rattle.kola_text.specs.Spelling.{fun_spelling};
 ghost use Rattle.kola_top.specs.Stages.{text_in, greatest_length};
@@ -29,7 +29,9 @@ use kola_core::Memory;
 use kola_load::{DbFault, read_db, read_schema};
 use kola_term::{LitSet, Term};
 use kola_text::print_term;
-use kola_values::{Schema, Set, push_set};
+use kola_canon::push_set;
+use kola_schema::Schema;
+use kola_values::Set;
 use std::alloc::{AllocError, Global};
 
 /// The status of an answer and the bytes that are written.

@@ -5,9 +5,9 @@ ghost use Rattle.std.specs.String.{string_bytes};
 ghost use Rattle.kola_top.specs.FaultLines.{lex_cause, schema_cause, schema_line, name_field, text_field, number_field, at_number, database_cause, database_line};
 
 use kola_base::LexWhy;
+use kola_canon::{push_bytes, push_number, push_text};
 use kola_core::{Memory, Name, Text};
 use kola_load::{DbFault, SchemaWhy};
-use kola_values::{push_bytes, push_number, push_text};
 use std::alloc::{AllocError, Global};
 
 fn lex_cause(why: LexWhy) -> &'static str

@@ -17,13 +17,12 @@ use Rattle.std.proofs.lemmas.Bool.Decides.{nat_tests}
 use Rattle.kola_values.specs.Values.{ValueTree}
 use Rattle.kola_values.specs.Order.{cmp, same}
 use Rattle.kola_values.specs.Sets.{Rising, canon, any, has}
-use Rattle.kola_values.specs.Meets.{NoneTwice}
 use Rattle.kola_values.specs.Views.{value_tree}
 use Rattle.kola_values.specs.Models.Exact.{exact}
 use Rattle.kola_values.specs.Models.Total.{cmp_total}
 use Rattle.kola_values.specs.declared.value.Value.{Value}
 use Rattle.kola_values.proofs.Anys.{one_list, rising, any_canon, equal, same_itself, absent, reversed}
-use Rattle.kola_values.proofs.NameTests.{both_false}
+use Rattle.kola_values.proofs.Truth.{both_false}
 
 -- the order of values by their trees
 abbrev pub by_tree : Value → Value → Ordering
@@ -106,18 +105,6 @@ module _ {X : Type 0} (f : X → ValueTree) where
   sorted_from (x ∷ []) r k d p q = absurd (omega arith)
   sorted_from (x ∷ (y ∷ ys)) r zero d p q = ap is_lt (cmp_total.antisymm (f y) (f x) ∙ ap ordering_reverse r.0)
   sorted_from (x ∷ (y ∷ ys)) r (suc k) d p q = rw add-one (rw add-one at (sorted_from (y ∷ ys) r.1 k d (omega arith) (omega arith)))
-
-  -- a sorted list without repeats rises
-  pub sorted_rises : (xs : List X) → IsSortedBy (λ x y. is_lt (cmp (f x) (f y))) xs → NoneTwice (map f xs) → Rising (map f xs)
-  unfolding same any
-  sorted_rises [] h n = tt
-  sorted_rises (x ∷ []) h n = (tt, tt)
-  sorted_rises (x ∷ (y ∷ ys)) h n = (at (cmp (f x) (f y)) refl, sorted_rises (y ∷ ys) (λ k d p q. rw add-one (rw add-one at (h (suc k) d (omega arith) (omega arith)))) n.1)
-    where
-      at : (o : Ordering) → cmp (f x) (f y) ≡ o → cmp (f x) (f y) ≡ Less
-      at Less e = e
-      at Equal e = absurd (true≢false (sym (ap (λ o. is_eq o || has (f x) (map f ys)) e) ∙ n.0))
-      at Greater e = absurd (true≢false (sym (ap is_lt (reversed (f x) (f y) e)) ∙ h 0 x (omega arith) (omega arith)))
 
   module _ (v : ValueTree) where
     has_at : (xs : List X) (k : ℕ) (d : X) → k < length xs → cmp (f (get_or xs k d)) v ≡ Equal → has v (map f xs) ≡ true

@@ -1,8 +1,8 @@
 use Rattle.std.proofs.Common.{map, take, refl, sym, subst}
 use Rattle.kola_core.proofs.Lists.{taken_more}
 use Rattle.kola_values.specs.Sets.{Each}
-use Rattle.kola_values.specs.MeetsTests.{IsHeld}
-use Rattle.kola_values.specs.ObjectViews.{object_tree}
+use Rattle.kola_database.specs.MeetsTests.{IsHeld}
+use Rattle.kola_database.specs.ObjectViews.{object_tree}
 use Rattle.kola_values.proofs.Keeping.{each_push}
 use Rattle.kola_load.proofs.db.all_held.Goals as goal
 

@@ -1,6 +1,6 @@
 use Rattle.std.proofs.Common.{◌≡◌, ◌++◌, map, flat_map}
 use Rattle.std.specs.Vec.Iter.{into_iter_items}
-use Rattle.kola_values.specs.ObjectViews.{object_tree}
+use Rattle.kola_database.specs.ObjectViews.{object_tree}
 use Rattle.kola_load.proofs.db.joined.Given as goal
 
 abbrev pub invariant-loop-list : goal.invariant-loop-list

@@ -1,6 +1,6 @@
 use Rattle.std.proofs.Common.{subst, sym, None, map, ap, ◌∙◌}
 use Rattle.serde_json.specs.View.{view}
-use Rattle.kola_values.specs.ObjectViews.{object_tree}
+use Rattle.kola_database.specs.ObjectViews.{object_tree}
 use Rattle.kola_load.specs.Ids.{there}
 use Rattle.kola_load.specs.Written.{objects_in}
 use Rattle.kola_load.proofs.Answering.{handed_on}

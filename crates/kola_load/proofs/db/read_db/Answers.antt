@@ -1,9 +1,9 @@
 use Rattle.std.proofs.Common.{map, sym, subst, ap, ◌∙◌}
 use Rattle.serde_json.specs.View.{view}
 use Rattle.kola_values.specs.Sets.{Each}
-use Rattle.kola_values.specs.Meets.{Meets}
-use Rattle.kola_values.specs.MeetsTests.{IsHeld}
-use Rattle.kola_values.specs.ObjectViews.{object_tree}
+use Rattle.kola_schema.specs.Meets.{Meets}
+use Rattle.kola_database.specs.MeetsTests.{IsHeld}
+use Rattle.kola_database.specs.ObjectViews.{object_tree}
 use Rattle.kola_load.specs.Loaded.{IsFirstFault}
 use Rattle.kola_load.proofs.Accepted.{accepted}
 use Rattle.kola_load.proofs.Answering.{said_of}

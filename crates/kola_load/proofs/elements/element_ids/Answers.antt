@@ -1,7 +1,7 @@
 use Rattle.std.proofs.Common.{◌++◌, ◌∷◌, [], map, sym, ap, ◌∙◌, refl, subst}
 use Rattle.std.proofs.lemmas.List.{take-map}
 use Rattle.serde_json.specs.View.{view}
-use Rattle.kola_values.specs.SchemaViews.{class_tree}
+use Rattle.kola_schema.specs.SchemaViews.{class_tree}
 use Rattle.kola_core.proofs.Lists.{taken_more}
 use Rattle.kola_load.specs.Ids.{AreIds}
 use Rattle.kola_load.specs.Loading.{element_fault}

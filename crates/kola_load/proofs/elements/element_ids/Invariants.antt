@@ -1,6 +1,6 @@
 use Rattle.std.proofs.Common.{◌≡◌, [], map, take, drop}
 use Rattle.serde_json.specs.View.{view}
-use Rattle.kola_values.specs.SchemaViews.{class_tree}
+use Rattle.kola_schema.specs.SchemaViews.{class_tree}
 use Rattle.kola_load.specs.Ids.{AreIds}
 use Rattle.kola_load.specs.Loading.{first_among, element_fault}
 use Rattle.kola_load.proofs.elements.element_ids.Given as goal

@@ -2,7 +2,7 @@ use Rattle.std.proofs.Common.{◌≡◌, Some, sym, ap, subst, ◌∙◌}
 use Rattle.serde_json.specs.View.{view, items_view}
 use Rattle.serde_json.specs.Find.{get, as_array}
 use Rattle.kola_load.specs.Ids.{AreIds}
-use Rattle.kola_values.specs.SchemaViews.{class_tree}
+use Rattle.kola_schema.specs.SchemaViews.{class_tree}
 use Rattle.kola_load.proofs.JsonParts.{extent_seen, extent_fault_seen}
 use Rattle.kola_load.proofs.Answering.{finds_for}
 use Rattle.kola_load.proofs.elements.extent_ids.Goals as goal

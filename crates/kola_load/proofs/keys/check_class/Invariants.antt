@@ -1,6 +1,6 @@
 use Rattle.std.proofs.Common.{◌≡◌, map, take, drop}
-use Rattle.kola_values.specs.ObjectViews.{object_tree}
-use Rattle.kola_values.specs.SchemaViews.{class_tree}
+use Rattle.kola_database.specs.ObjectViews.{object_tree}
+use Rattle.kola_schema.specs.SchemaViews.{class_tree}
 use Rattle.kola_load.specs.Loading.{first_among, key_fault, keys_fault}
 use Rattle.kola_load.proofs.keys.check_class.Given as goal
 

@@ -2,9 +2,9 @@ use Rattle.std.proofs.Common.{◌≡◌, Some, map, position, take, refl, subst,
 use Rattle.kola_core.proofs.Lists.{taken_more}
 use Rattle.std.specs.Str.{bytes_eq}
 use Rattle.kola_values.specs.Databases.{Object}
-use Rattle.kola_values.specs.Schemas.{names_of}
-use Rattle.kola_values.specs.ObjectViews.{object_tree}
-use Rattle.kola_values.specs.SchemaViews.{class_tree}
+use Rattle.kola_schema.specs.Schemas.{names_of}
+use Rattle.kola_database.specs.ObjectViews.{object_tree}
+use Rattle.kola_schema.specs.SchemaViews.{class_tree}
 use Rattle.kola_load.specs.KeyViews.{key_tree, value_at_place}
 use Rattle.kola_load.specs.Loading.{repeat_fault}
 use Rattle.kola_load.specs.declared.fault.DbFault.TheVariants.{KeyRepeats}

@@ -1,6 +1,6 @@
 use Rattle.std.proofs.Common.{◌≡◌, [], map, take, drop}
-use Rattle.kola_values.specs.ObjectViews.{object_tree}
-use Rattle.kola_values.specs.SchemaViews.{class_tree}
+use Rattle.kola_database.specs.ObjectViews.{object_tree}
+use Rattle.kola_schema.specs.SchemaViews.{class_tree}
 use Rattle.kola_load.specs.Loading.{first_among, repeat_fault}
 use Rattle.kola_load.proofs.SeenKeys.{IsSeen}
 use Rattle.kola_load.proofs.keys.check_key.Given as goal

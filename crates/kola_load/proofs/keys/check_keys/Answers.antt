@@ -1,5 +1,5 @@
 use Rattle.std.proofs.Common.{ap, subst, length, map, sym, ◌∙◌, arith}
-use Rattle.kola_values.specs.ObjectViews.{object_tree}
+use Rattle.kola_database.specs.ObjectViews.{object_tree}
 use Rattle.kola_load.specs.Loading.{keys_fault}
 use Rattle.kola_load.specs.KeyViews.{AreOfClass}
 use Rattle.kola_load.proofs.Answering.{handed_on}

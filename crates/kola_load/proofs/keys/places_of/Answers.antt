@@ -1,7 +1,7 @@
 use Rattle.std.proofs.Common.{◌++◌, ◌∷◌, [], ℕ, List, map, take, position, sym, ap, ◌∙◌}
 use Rattle.std.proofs.lemmas.List.{take_more, map-append}
 use Rattle.std.specs.Str.{bytes_eq}
-use Rattle.kola_values.specs.Schemas.{names_of}
+use Rattle.kola_schema.specs.Schemas.{names_of}
 use Rattle.kola_load.proofs.KeyPlaces.{place_named}
 use Rattle.kola_load.proofs.keys.places_of.Goals as goal
 

@@ -1,6 +1,6 @@
 use Rattle.std.proofs.Common.{◌≡◌, map, take, position}
 use Rattle.std.specs.Str.{bytes_eq}
-use Rattle.kola_values.specs.Schemas.{names_of}
+use Rattle.kola_schema.specs.Schemas.{names_of}
 use Rattle.kola_load.proofs.keys.places_of.Given as goal
 
 abbrev pub invariant-loop-a : goal.invariant-loop-a

@@ -2,7 +2,7 @@ use Rattle.std.proofs.Common.{◌++◌, ◌∷◌, [], map, take, sym, ap, ◌�
 use Rattle.std.proofs.lemmas.List.{map-append}
 use Rattle.serde_json.specs.View.{view}
 use Rattle.kola_core.proofs.Lists.{taken_more}
-use Rattle.kola_values.specs.SchemaViews.{class_tree}
+use Rattle.kola_schema.specs.SchemaViews.{class_tree}
 use Rattle.kola_values.specs.Views.{type_entry}
 use Rattle.kola_load.specs.Ids.{there}
 use Rattle.kola_load.specs.Loading.{attribute_fault}

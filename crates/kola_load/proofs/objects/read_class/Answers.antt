@@ -2,8 +2,8 @@ use Rattle.std.proofs.Common.{◌++◌, ◌∷◌, [], map, take, sym, ap, ◌�
 use Rattle.std.proofs.lemmas.List.{map-append}
 use Rattle.serde_json.specs.View.{view}
 use Rattle.kola_core.proofs.Lists.{taken_more}
-use Rattle.kola_values.specs.SchemaViews.{class_tree}
-use Rattle.kola_values.specs.ObjectViews.{object_tree}
+use Rattle.kola_schema.specs.SchemaViews.{class_tree}
+use Rattle.kola_database.specs.ObjectViews.{object_tree}
 use Rattle.kola_load.specs.Ids.{there}
 use Rattle.kola_load.specs.Loading.{object_fault}
 use Rattle.kola_load.specs.Written.{object_in, extent_of}

@@ -1,7 +1,7 @@
 use Rattle.std.proofs.Common.{◌≡◌, map, take, drop}
 use Rattle.serde_json.specs.View.{view}
-use Rattle.kola_values.specs.SchemaViews.{class_tree}
-use Rattle.kola_values.specs.ObjectViews.{object_tree}
+use Rattle.kola_schema.specs.SchemaViews.{class_tree}
+use Rattle.kola_database.specs.ObjectViews.{object_tree}
 use Rattle.kola_load.specs.Ids.{there}
 use Rattle.kola_load.specs.Loading.{first_of, object_fault, objects_fault}
 use Rattle.kola_load.specs.Written.{object_in, extent_of}

@@ -1,7 +1,7 @@
 use Rattle.std.proofs.Common.{◌≡◌, Some, subst, sym, ap, ◌∙◌}
 use Rattle.serde_json.specs.View.{view}
 use Rattle.kola_values.specs.Databases.{Class}
-use Rattle.kola_values.specs.Schemas.{class_named}
+use Rattle.kola_schema.specs.Schemas.{class_named}
 use Rattle.kola_values.proofs.SameTypes.{both_true}
 use Rattle.kola_load.specs.Ids.{there}
 use Rattle.kola_load.specs.Loading.{objects_fault}

@@ -1,5 +1,5 @@
 use Rattle.std.proofs.Common.{ap, ◌∙◌}
-use Rattle.kola_values.specs.SchemaViews.{class_tree}
+use Rattle.kola_schema.specs.SchemaViews.{class_tree}
 use Rattle.kola_load.specs.PlainSchemas.{plain_class}
 use Rattle.kola_load.specs.SchemaViews.{class_view}
 use Rattle.kola_load.proofs.MarkLoops.{copied_step}

@@ -1,5 +1,5 @@
 use Rattle.std.proofs.Common.{◌≡◌, map, take}
-use Rattle.kola_values.specs.SchemaViews.{class_tree}
+use Rattle.kola_schema.specs.SchemaViews.{class_tree}
 use Rattle.kola_load.specs.PlainSchemas.{plain}
 use Rattle.kola_load.specs.SchemaViews.{class_view}
 use Rattle.kola_load.proofs.schema_plain.plain_classes.Given as goal

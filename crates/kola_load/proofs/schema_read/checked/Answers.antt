@@ -1,5 +1,5 @@
 use Rattle.std.proofs.Common.{map, sym, ap, ◌∙◌}
-use Rattle.kola_values.specs.Schemas.{is_schema}
+use Rattle.kola_schema.specs.Schemas.{is_schema}
 use Rattle.kola_load.specs.SchemaViews.{class_view}
 use Rattle.kola_load.proofs.FirstMarkLaws.{found_first, found_none}
 use Rattle.kola_load.proofs.PlainLaws.{fine_is_schema}

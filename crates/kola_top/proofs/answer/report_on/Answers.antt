@@ -1,7 +1,7 @@
 use Rattle.std.proofs.Common.{◌∙◌, ap, [], map, length, filter}
 use Rattle.kola_values.specs.Values.{VInt, VSet, of_items}
 use Rattle.kola_values.specs.Sets.{canon}
-use Rattle.kola_values.specs.Spelling.{value_spelling}
+use Rattle.kola_canon.specs.Spelling.{value_spelling}
 use Rattle.kola_top.specs.FormViews.{form_view}
 use Rattle.kola_top.specs.SelectMeaning.{is_below}
 use Rattle.kola_top.proofs.ReportLaws.{report_is}

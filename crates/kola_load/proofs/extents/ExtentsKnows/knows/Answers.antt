@@ -2,8 +2,8 @@ use Rattle.std.proofs.Common.{sym, ap, ◌∙◌, Bor}
 use Rattle.std.specs.Option.{is_some}
 use Rattle.kola_core.specs.declared.name.Name.{Name}
 use Rattle.kola_core.specs.NameLists.{is_listed}
-use Rattle.kola_values.specs.Schemas.{extent_names}
-use Rattle.kola_values.proofs.Stored.{some_mapped}
+use Rattle.kola_schema.specs.Schemas.{extent_names}
+use Rattle.kola_database.proofs.Stored.{some_mapped}
 use Rattle.kola_load.proofs.MemberNames.{listed_class}
 use Rattle.kola_load.proofs.extents.ExtentsKnows.knows.Goals as goal
 

@@ -1,9 +1,9 @@
 use Rattle.std.proofs.Common.{Bool, ◌≡◌, ◌||◌, List, ℕ, false, codes, sym, ap, ◌∙◌}
 use Rattle.std.specs.Option.{is_some}
 use Rattle.std.specs.Str.{bytes_eq}
-use Rattle.kola_values.specs.SchemaViews.{type_at}
+use Rattle.kola_schema.specs.SchemaViews.{type_at}
 use Rattle.kola_core.specs.NameLists.{is_listed}
-use Rattle.kola_values.proofs.Stored.{some_mapped}
+use Rattle.kola_database.proofs.Stored.{some_mapped}
 use Rattle.kola_load.proofs.MemberNames.{listed_attribute}
 use Rattle.kola_load.proofs.objects.LabelsKnows.knows.Goals as goal
 

@@ -1,0 +1,7 @@
+pub mod Texts
+pub mod EncodingOrder
+pub mod EncodingInverse
+pub mod EncodingLoops
+pub mod EncodingBack
+mod SpellingExamples
+mod EncodingExamples

@@ -1,0 +1,4 @@
+pub mod Schemas
+pub mod Places
+pub mod NameTests
+pub mod SchemaExamples

@@ -1,5 +1,0 @@
-use Rattle.kola_values.proofs.EncodingOrder.{enc-set_of}
-use Rattle.kola_values.proofs.encoding.encoding_goes_through_sets.Goals as goal
-
-pub returns : goal.returns
-returns c = enc-set_of

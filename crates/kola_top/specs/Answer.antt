@@ -9,19 +9,10 @@ use Rattle.kola_top.specs.Layout.{lines_of, kinds, IsFirstFault}
 use Rattle.kola_top.specs.SelectForm.{SelectForm}
 use Rattle.kola_top.specs.SelectMeaning.{value_of_form, translation, visits_of_form}
 use Rattle.kola_text.specs.Spelling.{fun_spelling}
-<<<<<<< HEAD
 use Rattle.kola_canon.specs.Spelling.{value_spelling}
 use Rattle.kola_values.specs.Databases.{Classes}
 use Rattle.kola_load.specs.Loaded.{IsFirstFault as IsFirstDbFault}
 use Rattle.kola_load.specs.SchemaAccepted.{FaultOf}
-=======
-use Rattle.kola_canon.specs.Spelling.{value_spelling}
-use Rattle.kola_values.specs.Databases.{Classes, Objects}
-use Rattle.serde_json.specs.Data.{Data}
-use Rattle.kola_load.specs.Loading.{db_of}
-use Rattle.kola_load.specs.Loaded.{Reads, IsFirstFault as IsFirstDbFault}
-use Rattle.kola_load.specs.SchemaAccepted.{Writes, FaultOf}
->>>>>>> f5645732523b8f8b8fcc8b2d644c163466a5ea76
 use Rattle.kola_load.specs.declared.schema_fault.SchemaWhy.{SchemaWhy}
 use Rattle.kola_load.specs.declared.fault.DbFault.{DbFault}
 use Rattle.kola_load.specs.declared.fault.DbFault.TheVariants.{Memory}

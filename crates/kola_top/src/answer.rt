@@ -25,12 +25,12 @@ use crate::select::{literals_of, members_below, translate};
 use crate::select_laws::{select_is_evaluated_rightly, select_is_translated_rightly};
 use crate::status::Status;
 use crate::words::Action;
+use kola_canon::push_set;
 use kola_core::Memory;
 use kola_load::{DbFault, read_db, read_schema};
+use kola_schema::Schema;
 use kola_term::{LitSet, Term};
 use kola_text::print_term;
-use kola_canon::push_set;
-use kola_schema::Schema;
 use kola_values::Set;
 use std::alloc::{AllocError, Global};
 

@@ -10,7 +10,7 @@ use crate::output::{layout_fault_line, missing_line, query_line};
 use crate::status::Status;
 use kola_core::Memory;
 use kola_load::{DbFault, SchemaFault, SchemaWhy};
-use std::alloc::{AllocError, Global};
+use std::alloc::{AllocFailed, Global};
 
 /// Why a job has no report: the first refusal on its way.
 #[derive(Drop)]
@@ -61,6 +61,17 @@ impl From<Memory> for Refusal {
     ghost from_gives = { λ _ r. r ≡ Memory };
 
     fn from(_refused: Memory) -> Refusal {
+        Refusal::Memory
+    }
+}
+
+impl<T: Drop> From<AllocFailed<T>> for Refusal {
+    ghost use Rattle.std.specs.Prelude.{◌≡◌};
+    ghost use Rattle.kola_top.specs.declared.refusal.Refusal.TheVariants.{Memory};
+
+    ghost from_gives = { λ _ r. r ≡ Memory };
+
+    fn from(_refused: AllocFailed<T>) -> Refusal {
         Refusal::Memory
     }
 }

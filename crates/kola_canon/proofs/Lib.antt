@@ -1,4 +1,5 @@
 pub mod Texts
+pub mod Digits
 pub mod EncodingOrder
 pub mod EncodingInverse
 pub mod EncodingLoops

@@ -73,7 +73,7 @@ fn encoded(alloc: Global, v: &Value) -> Result<Value, Memory>
         Value::Struct(fields) => encoded_fields(alloc, fields.as_slice()),
         Value::Set(set) => {
             let members = encoded_members(alloc, set.as_slice())?;
-            Ok(Value::Set(Set::from_rising(members)))
+            Ok(Value::Set(Set::from_rising(members)?))
         }
         _ => v.copy(),
     }
@@ -135,7 +135,7 @@ fn decoded(alloc: Global, v: &Value, t: &Ty) -> Result<Value, Memory>
         (Ty::Struct(types), _) => Ok(Value::Struct(decoded_fields(alloc, v, types.as_slice())?)),
         (Ty::Set(t), Value::Set(set)) => {
             let members = decoded_members(alloc, set.as_slice(), t.get())?;
-            Ok(Value::Set(Set::from_rising(members)))
+            Ok(Value::Set(Set::from_rising(members)?))
         }
         _ => v.copy(),
     }
@@ -144,7 +144,8 @@ fn decoded(alloc: Global, v: &Value, t: &Ty) -> Result<Value, Memory>
 #[cycle(decoded)]
 fn decoded_fields(alloc: Global, v: &Value, types: &[(Name, Ty)]) -> Result<ValueFields, Memory>
     requires { WellFormedFields (dec_fields (of_type_fields (map type_entry types.now)) (value_tree v.now)) }
-    ensures { IfOk result (λ fs. of_fields fs ≡ dec_fields (of_type_fields (map type_entry types.now)) (value_tree v.now)) }
+    ensures { IfOk result
+        (λ fs. of_fields fs ≡ dec_fields (of_type_fields (map type_entry types.now)) (value_tree v.now)) }
 {
     let mut fields = ValueFields::new(alloc);
     let mut rest = v;

@@ -2,6 +2,7 @@
 #![tactic(auto)]
 
 mod encoding;
+mod spell;
 mod text;
 
 pub use encoding::{

@@ -1,8 +1,8 @@
 -- The test of integers of 64 bits tells exactly which they are.
-use Rattle.std.proofs.Common.{◌≡◌, ◌≤ℤ◌, int_le, ℤ, pos, negsuc, ◌&&◌, true, arith}
+use Rattle.std.proofs.Common.{◌≡◌, ◌≤ℤ◌, int_le, ℤ, ◌&&◌, true, arith}
 use Rattle.std.proofs.lemmas.Bool.{and_parts}
 use Rattle.std.proofs.lemmas.Int.{ints}
-use Rattle.kola_core.specs.Integers.{in_64, In64}
+use Rattle.kola_core.specs.Integers.{least_integer, greatest_integer, in_64, In64}
 
 at_most : (x y : ℤ) → x ≤ℤ y → int_le x y ≡ true
 at_most x y h = grind (arith, ints)
@@ -11,9 +11,9 @@ is_at_most : (x y : ℤ) → int_le x y ≡ true → x ≤ℤ y
 is_at_most x y h = grind (arith, ints)
 
 pub in_range : (z : ℤ) → In64 z → in_64 z ≡ true
-in_range z h = λ j. at_most (negsuc 9223372036854775807) z h.0 j && at_most z (pos 9223372036854775807) h.1 j
+in_range z h = λ j. at_most least_integer z h.0 j && at_most z greatest_integer h.1 j
 
 pub is_in_range : (z : ℤ) → in_64 z ≡ true → In64 z
 is_in_range z h =
-    let k = and_parts (int_le (negsuc 9223372036854775807) z) (int_le z (pos 9223372036854775807)) h in
-    (is_at_most (negsuc 9223372036854775807) z k.0, is_at_most z (pos 9223372036854775807) k.1)
+    let k = and_parts (int_le least_integer z) (int_le z greatest_integer) h in
+    (is_at_most least_integer z k.0, is_at_most z greatest_integer k.1)

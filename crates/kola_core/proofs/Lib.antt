@@ -3,3 +3,4 @@ pub mod Compare
 pub mod NameLists
 pub mod Integers
 pub mod NameListExamples
+mod IntegerExamples

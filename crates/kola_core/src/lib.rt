@@ -15,6 +15,3 @@ pub use text::Text;
 
 /// Want of memory.
 pub type Memory = std::alloc::AllocError;
-
-#[cfg(test)]
-mod tests;

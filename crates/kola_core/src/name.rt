@@ -8,42 +8,44 @@ use crate::{Duplicate, Items, Memory};
 use std::alloc::Global;
 use std::cmp::Ordering;
 use std::marker::Model;
+use std::rc::RcStr;
 
 /// A name: of a class, an attribute, a variable, a rule or a block. It is always UTF-8.
 #[derive(Debug, Drop)]
 pub struct Name {
-    text: String,
+    text: RcStr,
 }
 
 impl Model for Name {
-    ghost use Rattle.std.specs.Prelude.{List, ℕ, string_bytes};
+    ghost use Rattle.std.specs.Prelude.{List, ℕ};
+    ghost use Rattle.std.specs.Rc.{rc_str_bytes};
 
     ghost Value = { List ℕ };
 
-    ghost view = { λ a. string_bytes a.text };
+    ghost view = { λ a. rc_str_bytes a.text };
 }
 
 impl Name {
-    /// The name that a `String` holds, which takes no memory.
-    pub fn from_string(text: String) -> Name
-        ensures { result ≡ string_bytes text }
+    /// The name that a `String` holds.
+    pub fn from_string(text: String) -> Result<Name, Memory>
+        ensures { IfOk result (λ n. n ≡ string_bytes text) }
     {
-        Name { text }
+        let text = RcStr::from_string(text)?;
+        Ok(Name { text })
     }
 
-    /// The `String` that holds the name, which takes no memory.
-    pub fn into_string(self) -> String
-        ensures { string_bytes result ≡ self }
+    /// A `String` of the same bytes.
+    pub fn to_string(&self, alloc: Global) -> Result<String, Memory>
+        ensures { IfOk result (λ s. string_bytes s ≡ self.now) }
     {
-        let Name { text } = self;
-        text
+        String::from_str(alloc, self.as_text())
     }
 
     /// The name that a text writes.
     pub fn from_text(alloc: Global, text: &str) -> Result<Name, Memory>
         ensures { IfOk result (λ n. n ≡ text.now) }
     {
-        let text = String::from_str(alloc, text)?;
+        let text = RcStr::from_str(alloc, text)?;
         Ok(Name { text })
     }
 
@@ -55,7 +57,7 @@ impl Name {
         self.text.as_str()
     }
 
-    /// A name equal to it.
+    /// A name equal to it, which shares its bytes: none is copied.
     pub fn copy(&self) -> Result<Name, Memory>
         ensures { IfOk result (λ n. n ≡ self.now) }
     {

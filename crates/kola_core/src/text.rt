@@ -8,42 +8,37 @@ use crate::Memory;
 use std::alloc::Global;
 use std::cmp::Ordering;
 use std::marker::Model;
+use std::rc::RcStr;
 
 /// The value of a string. It is always UTF-8.
 #[derive(Debug, Drop)]
 pub struct Text {
-    text: String,
+    text: RcStr,
 }
 
 impl Model for Text {
-    ghost use Rattle.std.specs.Prelude.{List, ℕ, string_bytes};
+    ghost use Rattle.std.specs.Prelude.{List, ℕ};
+    ghost use Rattle.std.specs.Rc.{rc_str_bytes};
 
     ghost Value = { List ℕ };
 
-    ghost view = { λ a. string_bytes a.text };
+    ghost view = { λ a. rc_str_bytes a.text };
 }
 
 impl Text {
-    /// The text that a `String` holds, which takes no memory.
-    pub fn from_string(text: String) -> Text
-        ensures { result ≡ string_bytes text }
+    /// The text that a `String` holds.
+    pub fn from_string(text: String) -> Result<Text, Memory>
+        ensures { IfOk result (λ t. t ≡ string_bytes text) }
     {
-        Text { text }
-    }
-
-    /// The `String` that holds the text, which takes no memory.
-    pub fn into_string(self) -> String
-        ensures { string_bytes result ≡ self }
-    {
-        let Text { text } = self;
-        text
+        let text = RcStr::from_string(text)?;
+        Ok(Text { text })
     }
 
     /// The text as a value.
     pub fn from_text(alloc: Global, text: &str) -> Result<Text, Memory>
         ensures { IfOk result (λ t. t ≡ text.now) }
     {
-        let text = String::from_str(alloc, text)?;
+        let text = RcStr::from_str(alloc, text)?;
         Ok(Text { text })
     }
 
@@ -55,7 +50,7 @@ impl Text {
         self.text.as_str()
     }
 
-    /// A text equal to it.
+    /// A text equal to it, which shares its bytes: none is copied.
     pub fn copy(&self) -> Result<Text, Memory>
         ensures { IfOk result (λ t. t ≡ self.now) }
     {

@@ -62,7 +62,7 @@ fn members_of(alloc: Global, class: &Name, objects: &[ObjectDef]) -> Result<Set,
     for object in run {
         members.push(Value::Obj(object.class.copy()?, object.id))?;
     }
-    Ok(Set::from_rising(members))
+    Set::from_rising(members)
 }
 
 // The extents of the classes of a schema, in their order.

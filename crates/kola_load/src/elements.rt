@@ -87,7 +87,7 @@ pub(crate) fn all_ids(alloc: Global, schema: &Schema, value: &Value) -> Result<I
     for class in schema.classes() {
         let class = class.get();
         let ids = extent_ids(alloc, class, value)?;
-        table.insert(&class.name, ids)?;
+        table.insert(alloc, &class.name, ids)?;
     }
     Ok(table)
 }

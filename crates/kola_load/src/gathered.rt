@@ -64,7 +64,7 @@ fn with_room(alloc: Global, values: Vec<Value>) -> Result<Vec<Value>, Memory>
     if values.len() < values.capacity() {
         return Ok(values);
     }
-    let mut values = Set::from_members(alloc, values)?.into_vec();
+    let mut values = Set::from_members(alloc, values)?.into_vec()?;
     values.reserve(values.len())?;
     Ok(values)
 }

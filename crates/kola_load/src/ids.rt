@@ -26,10 +26,15 @@ impl Ids {
     }
 
     // Takes the ids of a class into the table, in place of those that it had.
-    pub(crate) fn insert(&mut self, class: &Name, ids: BTreeSet<u32>) -> Result<(), Memory>
+    pub(crate) fn insert(
+        &mut self,
+        alloc: Global,
+        class: &Name,
+        ids: BTreeSet<u32>,
+    ) -> Result<(), Memory>
         ensures { OnOk result ((r : List ℕ × ℕ) → there self.new r ≡ cond (bytes_eq class.now r.0) (contains nat_cmp ids r.1) (there self.old r)) }
     {
-        let name = class.copy()?.into_string();
+        let name = class.to_string(alloc)?;
         self.by_class.insert(name, ids)?;
         Ok(())
     }

@@ -1,6 +1,7 @@
 -- When a database meets a schema: ids are distinct within a class, each object fits its class, and no two objects of a class agree on a key.
 use Rattle.std.specs.Prelude.{ℕ, ◌≤◌, ◌&&◌, Bool, true, false, List, [], ◌∷◌, Some, ◌≡◌, map}
 use Rattle.kola_values.specs.Values.{ValueTree, VObj}
+use Rattle.kola_values.specs.Limits.{greatest_id}
 use Rattle.kola_values.specs.Order.{same}
 use Rattle.kola_values.specs.Types.{TypeTree, TClass}
 use Rattle.kola_values.specs.Sets.{Each, has}
@@ -8,7 +9,7 @@ use Rattle.kola_values.specs.Databases.{Class, Object, Classes, Objects, look_up
 use Rattle.kola_core.specs.NameLists.{is_listed}
 use Rattle.kola_schema.specs.Schemas.{are_distinct, names_of, class_named, key_at}
 
--- an object has exactly the attributes of its class, each once and with a value of its type, and an id of 1 to 4294967295
+-- an object has exactly the attributes of its class, each once and with a value of its type, and an id from 1 to the greatest
 pub record FitsClass (S : Classes) (d : Objects) (o : Object) : Type 0 where
   pub class : Class
   pub is : class_named S o.class ≡ Some class
@@ -16,7 +17,7 @@ pub record FitsClass (S : Classes) (d : Objects) (o : Object) : Type 0 where
   pub exactly : (a : List ℕ) → is_listed a (names_of o.values) ≡ is_listed a (names_of class.attributes)
   pub types : (a : List ℕ) (t : TypeTree) → attribute_type S o.class a ≡ Some t → HasType d (value_or_unit (look_up a o.values)) t
   pub id_low : 1 ≤ o.id
-  pub id_high : o.id ≤ 4294967295
+  pub id_high : o.id ≤ greatest_id
 
 -- no value stands twice
 abbrev pub NoneTwice : List ValueTree → Type 0

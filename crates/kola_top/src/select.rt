@@ -79,5 +79,5 @@ pub fn members_below(alloc: Global, set: &Set, bound: Option<i64>) -> Result<Set
             members.push(v.copy()?)?;
         }
     }
-    Ok(Set::from_rising(members))
+    Set::from_rising(members)
 }

@@ -1,5 +1,6 @@
 pub mod Truth
 pub mod Anys
+pub mod Members
 pub mod Each
 pub mod Typed
 pub mod Loops
@@ -8,3 +9,4 @@ pub mod Keeping
 pub mod Making
 pub mod Merging
 mod Examples
+mod TypedExamples

@@ -1,5 +1,5 @@
 -- Sets as strictly rising lists.
-use Rattle.std.specs.Prelude.{Bool, true, false, ◌||◌, ◌&&◌, List, [], ◌∷◌, ◌≡◌}
+use Rattle.std.specs.Prelude.{Bool, true, false, ◌||◌, ◌&&◌, List, [], ◌∷◌, ◌≡◌, ◌↔◌, Contains}
 use Rattle.std.specs.declared.cmp.Ordering.{Ordering}
 use Rattle.std.specs.declared.cmp.Ordering.TheVariants.{Less, Equal, Greater}
 use Rattle.kola_values.specs.Values.{ValueTree, VSet, items, of_items}
@@ -13,6 +13,10 @@ Below v (w ∷ ws) = cmp v w ≡ Less
 abbrev pub Rising : List ValueTree → Type 0
 Rising [] = Unit {0}
 Rising (v ∷ vs) = Below v vs × Rising vs
+
+-- ws rises strictly and has the members of vs
+abbrev pub IsRisingListOf : List ValueTree → List ValueTree → Type 0
+IsRisingListOf vs ws = Rising ws × ((v : ValueTree) → (Contains ws v ↔ Contains vs v))
 
 -- v ∷ w ∷ ws, or w ∷ ws, or w ∷ us, as v compares to w
 abbrev pub put_at : Ordering → ValueTree → ValueTree → List ValueTree → List ValueTree → List ValueTree

@@ -18,7 +18,7 @@ impl Set {
         let mut members = members;
         members.sort_unstable_by(|a, b| cmp_values(a, b));
         members.dedup_by(|a, b| cmp_values(a, b).is_eq());
-        Ok(Set::from_rising(members))
+        Set::from_rising(members)
     }
 
     /// Whether a value is a member.
@@ -82,7 +82,7 @@ impl Set {
         }
         push_copies(&mut members, first, &vs[i..])?;
         push_copies(&mut members, second, &ws[j..])?;
-        Ok(Set::from_rising(members))
+        Set::from_rising(members)
     }
 }
 

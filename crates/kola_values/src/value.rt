@@ -9,6 +9,7 @@ ghost use Rattle.kola_values.specs.Views.{value_tree, value_entry, value_entry_a
 use kola_core::{Memory, Name, Text};
 use std::alloc::Global;
 use std::marker::Model;
+use std::rc::Rc;
 
 /// A value: of a query or of a term. Structs occur in queries only, pairs and `Unit` in terms only.
 #[cycle(value)]
@@ -32,11 +33,11 @@ pub enum Value {
     Set(Set),
 }
 
-/// A boxed value.
+/// A value behind a count of its owners: a copy shares it.
 #[cycle(value)]
 #[derive(Drop)]
 pub struct BoxedValue {
-    inner: Box<Value>,
+    inner: Rc<Value>,
 }
 
 /// A list of labels with values.
@@ -46,11 +47,11 @@ pub struct ValueFields {
     entries: Vec<(Name, Value)>,
 }
 
-/// A set: a list of values that rises strictly in their order.
+/// A set: a list of values that rises strictly in their order. A copy shares the members.
 #[cycle(value)]
 #[derive(Drop)]
 pub struct Set {
-    members: Vec<Value>,
+    members: Rc<Vec<Value>>,
 }
 
 impl Model for BoxedValue {
@@ -122,12 +123,13 @@ impl Model for Set {
     ghost use Rattle.std.specs.Prelude.{map};
     ghost use Rattle.kola_values.specs.Views.{value_tree};
 
-    ghost view = { λ a. map value_tree a.members.items };
+    ghost view = { λ a. map value_tree a.members.value.items };
 
     ghost use Rattle.kola_values.specs.Sets.{Rising, Each};
     ghost use Rattle.kola_values.specs.WellFormed.{WellFormed};
 
-    ghost invariant = { λ a. Rising (map value_tree a.members.items) × Each WellFormed (map value_tree a.members.items) };
+    ghost invariant = { λ a. Rising (map value_tree a.members.value.items)
+        × Each WellFormed (map value_tree a.members.value.items) };
 
     ghost use Rattle.kola_values.specs.Models.Weights.{values_weight};
 
@@ -136,7 +138,7 @@ impl Model for Set {
     ghost use Rattle.kola_values.specs.Models.Falls.{members_le};
     ghost use Rattle.std.proofs.Common.{arith};
 
-    ghost size_decreases = { λ a h. omega (arith, members_le a.members.items) };
+    ghost size_decreases = { λ a h. omega (arith, members_le a.members.value.items) };
 }
 
 // What every value of a list keeps.
@@ -179,7 +181,7 @@ impl Value {
         Ok(Value::Pair(a, b))
     }
 
-    /// A value equal to it.
+    /// A value equal to it. Structs are copied field by field, all else is shared.
     #[cycle(copy)]
     pub fn copy(&self) -> Result<Value, Memory>
         ensures { IfOk result (λ v. value_tree v ≡ value_tree self.now) }
@@ -210,7 +212,7 @@ impl BoxedValue {
         ensures { IfOk result (λ b. b ≡ value_tree value) }
     {
         value.well_formed();
-        let inner = Box::new(alloc, value)?;
+        let inner = Rc::new(alloc, value)?;
         Ok(BoxedValue { inner })
     }
 
@@ -218,24 +220,15 @@ impl BoxedValue {
     pub fn get(&self) -> &Value
         ensures { value_tree result.now ≡ self.now }
     {
-        &self.inner
+        self.inner.as_ref()
     }
 
-    /// The value, out of its box.
-    pub fn into_inner(self) -> Value
-        ensures { value_tree result ≡ self }
-    {
-        Box::into_inner(self.inner)
-    }
-
-    /// A copy of the value, in a box.
-    #[cycle(copy)]
+    /// A copy of the value, which shares it: nothing of it is copied.
     pub fn copy(&self) -> Result<BoxedValue, Memory>
         ensures { IfOk result (λ b. b ≡ self.now) }
     {
-        let alloc = *Box::allocator(&self.inner);
-        let copied = self.get().copy()?;
-        BoxedValue::new(alloc, copied)
+        let inner = self.inner.clone()?;
+        Ok(BoxedValue { inner })
     }
 }
 
@@ -310,28 +303,31 @@ impl Set {
     }
 
     /// The empty set.
-    pub fn new(alloc: Global) -> Set
-        ensures { result ≡ [] }
+    pub fn new(alloc: Global) -> Result<Set, Memory>
+        ensures { IfOk result (λ s. s ≡ []) }
     {
-        Set {
-            members: Vec::new(alloc),
-        }
+        let members = Rc::new(alloc, Vec::new(alloc))?;
+        Ok(Set { members })
     }
 
-    /// The set whose members are a list that rises strictly. It takes no memory.
-    pub fn from_rising(members: Vec<Value>) -> Set
+    /// The set whose members are a list that rises strictly. The members stay where they are.
+    pub fn from_rising(members: Vec<Value>) -> Result<Set, Memory>
         requires { Rising (map value_tree members.items) }
-        ensures { result ≡ map value_tree members.items }
+        ensures { IfOk result (λ s. s ≡ map value_tree members.items) }
     {
         all_well_formed(members.as_slice());
-        Set { members }
+        let members = Rc::new(*members.allocator(), members)?;
+        Ok(Set { members })
     }
 
-    /// The members in rising order, as a `Vec`. It takes no memory.
-    pub fn into_vec(self) -> Vec<Value>
-        ensures { map value_tree result.items ≡ self }
+    /// The members in rising order, as a `Vec`: they themselves where no other set shares them, and else copies.
+    pub fn into_vec(self) -> Result<Vec<Value>, Memory>
+        ensures { IfOk result (λ v. map value_tree v.items ≡ self) }
     {
-        self.members
+        match Rc::try_unwrap(self.members) {
+            Ok(members) => Ok(members),
+            Err(shared) => copies(shared.as_slice(), *shared.allocator()),
+        }
     }
 
     // The allocator that the set keeps.
@@ -367,15 +363,22 @@ impl Set {
         self.members.get(n)
     }
 
-    /// A copy of the set.
-    #[cycle(copy)]
+    /// A copy of the set, which shares its members: none is copied.
     pub fn copy(&self) -> Result<Set, Memory>
         ensures { IfOk result (λ s. s ≡ self.now) }
     {
-        let mut members = Vec::new(*self.members.allocator());
-        for v in &self.members {
-            members.push(v.copy()?)?;
-        }
+        let members = self.members.clone()?;
         Ok(Set { members })
     }
+}
+
+// Copies of the values of a list.
+fn copies(values: &[Value], alloc: Global) -> Result<Vec<Value>, Memory>
+    ensures { IfOk result (λ v. map value_tree v.items ≡ map value_tree values.now) }
+{
+    let mut all = Vec::new(alloc);
+    for value in values {
+        all.push(value.copy()?)?;
+    }
+    Ok(all)
 }

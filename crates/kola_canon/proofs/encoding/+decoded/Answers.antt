@@ -29,11 +29,11 @@ decoded-from_rising-requires t c =
     let w = parts_of_set (map (dec c.in-Set-Set.t) s) (subst WellFormed both c.requires) in
     subst Rising (sym (c.in_ok-members-in-Set-Set.ensures ∙ ap₂ (λ u l. map (dec u) l) c.get-in-Set-Set.ensures c.as_slice-in-Set-Set.ensures)) w.0
 
-pub decoded-returns-in_ok-members-in-Set-Set : goal.decoded-returns-in_ok-members-in-Set-Set
-decoded-returns-in_ok-members-in-Set-Set t c =
+pub decoded-returns-in_ok-from_rising-in-Set-Set : goal.decoded-returns-in_ok-from_rising-in-Set-Set
+decoded-returns-in_ok-from_rising-in-Set-Set t c =
     let s = c.in-Set-Set.set in
     let both = ap₂ (λ z y. dec (type_tree z) (value_tree y)) c.in-Set-Set.is-0 c.in-Set-Set.is-1 ∙ set_decoded c.in-Set-Set.t s in
-    ap (λ l. VSet (of_items l)) (c.from_rising.ensures ∙ (c.in_ok-members-in-Set-Set.ensures ∙ ap₂ (λ u l. map (dec u) l) c.get-in-Set-Set.ensures c.as_slice-in-Set-Set.ensures))
+    ap (λ l. VSet (of_items l)) (c.in_ok-from_rising-in-Set-Set.ensures ∙ (c.in_ok-members-in-Set-Set.ensures ∙ ap₂ (λ u l. map (dec u) l) c.get-in-Set-Set.ensures c.as_slice-in-Set-Set.ensures))
     ∙ sym both
 
 pub decoded_fields-returns-in_default : goal.decoded_fields-returns-in_default

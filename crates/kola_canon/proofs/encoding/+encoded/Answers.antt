@@ -22,9 +22,9 @@ encoded-from_rising-requires t c =
     let w = set_parts _ (subst (λ z. WellFormed (enc (value_tree z))) c.in-Set.is c.requires) in
     subst Rising (sym (c.in_ok-members-in-Set.ensures ∙ ap (map enc) c.as_slice-in-Set.ensures)) w.0
 
-pub encoded-returns-in_ok-members-in-Set : goal.encoded-returns-in_ok-members-in-Set
-encoded-returns-in_ok-members-in-Set t c =
-    ap (λ l. VSet (of_items l)) (c.from_rising.ensures ∙ (c.in_ok-members-in-Set.ensures ∙ ap (map enc) c.as_slice-in-Set.ensures))
+pub encoded-returns-in_ok-from_rising-in-Set : goal.encoded-returns-in_ok-from_rising-in-Set
+encoded-returns-in_ok-from_rising-in-Set t c =
+    ap (λ l. VSet (of_items l)) (c.in_ok-from_rising-in-Set.ensures ∙ (c.in_ok-members-in-Set.ensures ∙ ap (map enc) c.as_slice-in-Set.ensures))
     ∙ ap VSet (sym (enc_members-of_items _))
     ∙ sym (ap (λ z. enc (value_tree z)) c.in-Set.is)
 

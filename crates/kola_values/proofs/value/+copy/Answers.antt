@@ -1,19 +1,8 @@
 use Rattle.std.proofs.Common.{◌∙◌, ap, map, arith}
 use Rattle.kola_core.proofs.Lists.{copied_more}
-use Rattle.kola_values.specs.Views.{value_tree, value_entry}
-use Rattle.kola_values.proofs.Loops.{member_falls, value_entry_falls}
+use Rattle.kola_values.specs.Views.{value_entry}
+use Rattle.kola_values.proofs.Loops.{value_entry_falls}
 use Rattle.kola_values.proofs.value.+copy.Goals as goal
-
-pub Set::copy-copy-requires : goal.Set::copy-copy-requires
-Set::copy-copy-requires t c =
-    let h = member_falls c.deref-v-items.result.now c.args.self.now c.loop-v.v-index c.v-item.result (ap (map value_tree) c.deref-v-items.ensures.value ∙ c.self.view_is) c.loop-v-test.true c.v-item.is in
-    (omega (arith, h, c.decreases), tt)
-
-pub Set::copy-loop-v-preserved : goal.Set::copy-loop-v-preserved
-Set::copy-loop-v-preserved t c =
-    ap (map value_tree) c.in_ok-push.ensures.items
-    ∙ copied_more value_tree c.loop-v.members.items c.deref-v-items.result.now c.self.inside.members.items c.args.self.now c.loop-v.v-index c.v-item.result c.in_ok-copy.field-0
-    c.loop-v.invariant c.deref-v-items.ensures.value c.self.view_is c.loop-v-test.true c.v-item.is c.in_ok-copy.ensures
 
 pub ValueFields::copy-copy-requires-in-loop-label : goal.ValueFields::copy-copy-requires-in-loop-label
 ValueFields::copy-copy-requires-in-loop-label t c =

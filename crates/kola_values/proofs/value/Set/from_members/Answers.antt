@@ -1,4 +1,4 @@
-use Rattle.std.proofs.Common.{◌∙◌, sym, ap, map, rules, subst}
+use Rattle.std.proofs.Common.{◌≡◌, IfOk, ◌∙◌, sym, ap, map, rules, subst}
 use Rattle.std.specs.Ordering.{is_lt}
 use Rattle.std.proofs.lemmas.Fn.{dedup_same, always_returns_same}
 use Rattle.std.proofs.lemmas.List.Sorted.{ranks_by}
@@ -18,4 +18,4 @@ pub returns : goal.returns
 returns c =
     let e = dedup_same _ same_tree _ (λ x y b f' x' y' k. search rules) c.sort_unstable_by.new.self.items c.dedup_by.new.self.items c.dedup_by.ensures.filtered in
     let up = c.sort_unstable_by.ensures.sorted (λ x y. is_lt (by_tree x y)) (ranks_by cmp_total value_tree) (always_returns_same _ _ _ (λ a r f' k. search rules)) in
-    c.from_rising.ensures ∙ ap (map value_tree) e ∙ made c.args.members.items c.sort_unstable_by.new.self.items c.sort_unstable_by.ensures.permutation up
+    subst (λ l. IfOk c.from_rising.result (λ s. s ≡ l)) (ap (map value_tree) e ∙ made c.args.members.items c.sort_unstable_by.new.self.items c.sort_unstable_by.ensures.permutation up) c.from_rising.ensures

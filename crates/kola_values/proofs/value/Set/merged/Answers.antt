@@ -1,4 +1,4 @@
-use Rattle.std.proofs.Common.{◌≡◌, ◌+◌, ◌++◌, [], cond, map, drop, sym, ap, ◌∙◌, subst, arith}
+use Rattle.std.proofs.Common.{◌≡◌, ◌+◌, ◌++◌, [], cond, map, drop, sym, ap, ◌∙◌, subst, arith, IfOk}
 use Rattle.std.proofs.lemmas.List.{drop-map, take_rest}
 use Rattle.kola_core.proofs.Lists.{length_seen}
 use Rattle.kola_values.specs.Merging.{merged}
@@ -63,4 +63,4 @@ pub from_rising-requires : goal.from_rising-requires
 from_rising-requires c = subst Rising (ended c) (rising_merged c.args.first c.args.both c.args.second c.args.self.now c.args.other.now)
 
 pub returns : goal.returns
-returns c = c.from_rising.ensures ∙ sym (ended (goal.at.returns c).In_ok-push_copies-2)
+returns c = subst (λ l. IfOk c.from_rising.result (λ s. s ≡ l)) (sym (ended (goal.at.returns c).In_ok-push_copies-2)) c.from_rising.ensures

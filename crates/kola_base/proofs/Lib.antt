@@ -15,3 +15,8 @@ pub mod PlacedLaws
 pub mod Printed
 pub mod Alone
 pub mod NumbersBack
+pub mod SignLaws
+pub mod SpelledLaws
+pub mod SymbolLaws
+pub mod TermWordLaws
+pub mod NamedLaws

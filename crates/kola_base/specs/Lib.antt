@@ -10,3 +10,10 @@ pub mod Tokens
 pub mod Lexemes
 pub mod Placed
 pub mod LexemeViews
+pub mod Signs
+pub mod TermWords
+pub mod Alphabets
+pub mod AlphabetViews
+pub mod Spelled
+pub mod Named
+pub mod NamedViews

@@ -10,6 +10,7 @@ ghost use Rattle.kola_base.specs.Tokens.{AreTokens, IsTokenIn};
 
 use crate::lex::{Kind, Token};
 use crate::number::number_of;
+use crate::sign::{Sign, sign_of};
 use crate::strings::string_of;
 use kola_core::{Memory, Text};
 use std::alloc::Global;
@@ -52,8 +53,7 @@ pub enum Lexeme<'a> {
     Number(i64),
     /// A string, by the text that it writes.
     Quoted(Quote<'a>),
-    /// The bytes of a sign.
-    Sign(&'a [u8]),
+    Sign(Sign),
 }
 
 /// What a token says, and the place of its first byte in the text, counted in bytes from 0.
@@ -100,7 +100,7 @@ fn lexeme_of<'a>(text: &'a [u8], token: &Token) -> Option<Lexeme<'a>>
         Kind::Word => Some(Lexeme::Word(word_text(bytes))),
         Kind::Number => Some(Lexeme::Number(number_of(text, token))),
         Kind::Quoted => Some(Lexeme::Quoted(Quote { string: bytes })),
-        Kind::Sign => Some(Lexeme::Sign(bytes)),
+        Kind::Sign => Some(Lexeme::Sign(sign_of(bytes))),
         Kind::End => None,
     }
 }
@@ -137,6 +137,16 @@ impl<'a> Lexemes<'a> {
         ))
     }
 
+    /// The same ones once more.
+    pub fn again(&self) -> Lexemes<'a>
+        ensures { result ≡ self.now }
+    {
+        Lexemes {
+            text: self.text,
+            left: self.left,
+        }
+    }
+
     /// The place of the first one, or `end` where none is left.
     pub fn place(&self, end: usize) -> usize
         ensures { result ≡ place end self.now }
@@ -152,57 +162,5 @@ impl<'a> Lexemes<'a> {
         ensures { result ≡ length self.now }
     {
         self.left.len() - 1
-    }
-}
-
-#[cfg(test)]
-mod tests {
-    use super::*;
-    use crate::lex::{LexFault, tokens};
-
-    /// What a lexeme is to say, with the text of a string.
-    #[derive(Clone, Copy)]
-    enum Want {
-        Word(&'static str),
-        Number(i64),
-        Quoted(&'static str),
-        Sign(&'static [u8]),
-    }
-
-    fn says(alloc: Global, lexeme: &Lexeme<'_>, want: Want) -> Result<bool, Memory> {
-        match (lexeme, want) {
-            (Lexeme::Word(word), Want::Word(text)) => Ok(*word == text),
-            (Lexeme::Number(number), Want::Number(value)) => Ok(*number == value),
-            (Lexeme::Sign(sign), Want::Sign(bytes)) => Ok(*sign == bytes),
-            (Lexeme::Quoted(quote), Want::Quoted(text)) => {
-                Ok(quote.to_text(alloc)?.as_text() == text)
-            }
-            _ => Ok(false),
-        }
-    }
-
-    #[test]
-    fn walks_over_a_text(rt: HostRuntime) -> Result<(), LexFault> {
-        let text = b"x <= \"a\\u{41}\\n\" -5";
-        let shown = [
-            (0, Want::Word("x")),
-            (2, Want::Sign(b"<=")),
-            (5, Want::Quoted("aA\n")),
-            (17, Want::Number(-5)),
-        ];
-        let found = tokens(rt.alloc(), text)?;
-        assert_eq!(rt; found.len(), shown.len() + 1);
-        let mut left = Lexemes::from_token(text, &found, 0);
-        assert_eq!(rt; left.len(), shown.len());
-        for (at, want) in shown {
-            assert_eq!(rt; left.place(text.len()), at);
-            let (first, rest) = left.split().expect(&rt, "a lexeme");
-            assert_eq!(rt; first.at, at);
-            assert!(rt; says(rt.alloc(), &first.says, want)?);
-            left = rest;
-        }
-        assert_eq!(rt; left.place(text.len()), 19);
-        assert!(rt; left.split().is_none());
-        Ok(())
     }
 }

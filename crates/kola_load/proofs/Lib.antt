@@ -21,6 +21,4 @@ pub mod SchemaLoops
 pub mod FirstMarkLaws
 pub mod MarkLoops
 pub mod PlainLaws
-pub mod SchemaReadLaws
 pub mod OneSchema
-pub mod SchemaAnswers

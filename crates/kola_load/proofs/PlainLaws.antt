@@ -10,8 +10,9 @@ use Rattle.kola_values.proofs.SameTypes.{name_equal, name_itself}
 use Rattle.kola_load.specs.SchemaTree.{Named, TypeAt, AInt, AStr, ABool, ASet, AClass, AttributeAt, ClassAt}
 use Rattle.kola_load.specs.SchemaFaults.{mark, Among, names, class_names, extents, attributes, IsTwice, IsUnknown, IsUnknownKey, StandsInClass, Stands}
 use Rattle.kola_load.specs.PlainSchemas.{plain_type, plain_attribute, plain_class, plain, AreSome, HaveKeys}
-use Rattle.kola_load.specs.SchemaGrammar.{◌▸◌, IsSign, IsWord, NameText, KeyText, MayComma, KeysText, AttributesText, BodyText, ClassText, SchemaText}
-use Rattle.kola_load.specs.declared.schema_alphabet.Sign.TheVariants.{Open, LeftBrace}
+use Rattle.kola_load.specs.SchemaGrammar.{◌▸◌, IsSign, IsWord, KeyText, MayComma, KeysText, AttributesText, BodyText, ClassText, SchemaText}
+use Rattle.kola_base.specs.declared.sign.Sign.TheVariants.{Open, LeftBrace}
+use Rattle.kola_base.specs.Named.{NameText}
 use Rattle.kola_load.specs.declared.schema_alphabet.Word.TheVariants as word
 use Rattle.kola_parse.specs.Texts.{◌·◌}
 use Rattle.kola_load.specs.declared.schema_fault.Mark.{Mark}

@@ -5,7 +5,8 @@ use Rattle.kola_base.specs.Placed.{Placed}
 use Rattle.kola_parse.specs.declared.why.Why.TheVariants.{Unexpected, TooDeep}
 use Rattle.kola_parse.specs.Reader.{fault, whole}
 use Rattle.kola_load.specs.SchemaTree.{Named, AInt, ASet, AClass}
-use Rattle.kola_load.specs.SchemaAlphabet.{signs, words, sign_named, word_named}
+use Rattle.kola_load.specs.SchemaAlphabet.{words, word_named}
+use Rattle.kola_base.specs.Signs.{signs, sign_named}
 use Rattle.kola_load.specs.SchemaReaders.{schema_at}
 
 -- each lexeme one place behind the one before

@@ -1,47 +1,26 @@
 -- The readers of schemas read the grammar.
-use Rattle.std.proofs.Common.{◌≡◌, inl, inr, ℕ, zero, suc, List, [], ◌∷◌, Option, Some, None, refl, sym, ap, subst, ◌∙◌}
+use Rattle.std.proofs.Common.{◌≡◌, inl, inr, ℕ, zero, suc, List, [], ◌∷◌, Option, Some, None, option_map, refl, sym, ap, subst, ◌∙◌}
 use Rattle.kola_base.specs.Placed.{Placed}
 use Rattle.kola_parse.specs.Reading.{never, Good}
 use Rattle.kola_parse.specs.Texts.{◌·◌, ends, Nothing, Chained, Made, Paired}
 use Rattle.kola_parse.specs.Moves.{MoveGood}
 use Rattle.kola_parse.specs.Kinds.{Lang, Deeper}
 use Rattle.kola_parse.proofs.GoodReaders.{done_good, next_good, made_good, pair_good, good_as}
-use Rattle.kola_parse.proofs.KindLaws.{Heads, led_good, Inside, bare, first, both, deeper_good}
-use Rattle.kola_load.specs.declared.schema_alphabet.Sign.TheVariants.{Open, Close, LeftBrace, RightBrace, Less, Greater, Comma, Semicolon}
+use Rattle.kola_parse.proofs.KindLaws.{Heads, led_good, Inside, deeper_good}
+use Rattle.kola_base.specs.declared.sign.Sign.TheVariants.{Open, Close, LeftBrace, RightBrace, Less, Greater, Comma, Semicolon}
+use Rattle.kola_base.specs.Alphabets.{KSign, KWord}
+use Rattle.kola_base.specs.Named.{name_of, NameText}
+use Rattle.kola_base.proofs.SymbolLaws.{sign_token, word_token, sign_is, word_is, ahead_sign, ahead_word, behind_sign, no_name}
+use Rattle.kola_base.proofs.NamedLaws.{name_token, some_name, name_good}
+use Rattle.kola_parse.proofs.LevelLaws.{levels}
 use Rattle.kola_load.specs.declared.schema_alphabet.Word.TheVariants as w
 use Rattle.kola_parse.specs.Listed.{Listed}
 use Rattle.kola_load.specs.SchemaTree.{Named, TypeAt, AInt, AStr, ABool, ASet, AClass, AttributeAt, ClassAt}
-use Rattle.kola_load.specs.SchemaAlphabet.{Kind, KSign, KWord, KOther, kind, word_of, name_of}
-use Rattle.kola_load.specs.SchemaGrammar.{◌▸◌, IsSign, IsWord, NameText, leaf_of, TypeText, KeyText, MayComma, KeysText, AttributesText, BodyText}
-use Rattle.kola_load.specs.SchemaReaders.{Reader, name_move, name_at, leaf_move, type_move, type_step, below, type_at, next_name_move, next_name, names_at, key_move, key_at, next_key_move, next_key, keys_at, attribute_of, attribute_at, next_attribute_move, next_attribute, attributes_at, class_of, body_at}
+use Rattle.kola_load.specs.SchemaAlphabet.{word_spelling, Kind, kind}
+use Rattle.kola_load.specs.SchemaGrammar.{◌▸◌, IsSign, IsWord, leaf_of, leaf, TypeText, KeyText, MayComma, KeysText, AttributesText, BodyText}
+use Rattle.kola_load.specs.SchemaReaders.{Reader, leaf_move, type_move, type_step, type_at, next_name_move, next_name, names_at, key_move, key_at, next_key_move, next_key, keys_at, attribute_of, attribute_at, next_attribute_move, next_attribute, attributes_at, class_of, body_at}
 use Rattle.kola_parse.proofs.ListedLaws.{ItemOr, Others, IsTaken, IsList, others_good, listed_good}
-use Rattle.kola_load.proofs.SchemaSymbols.{by_word, by_name, sign_token, word_token, name_token, sign_is, word_is, ahead_sign, ahead_word, behind_sign}
-
--- ---- names
-
-some_name : Named
-some_name = record { name = []; at = 0 }
-
-abbrev NameRest : Kind → Lang Placed Named
-NameRest (KWord o n) = Nothing n
-NameRest _ = λ x w. ⊥
-
-name_heads : Heads kind NameRest NameText
-name_heads = record { to = to; from = from; empty = λ x h. h; some = record { tree = some_name; text = name_token some_name ∷ []; spells = (refl, tt) } }
-  where
-    to : (k : Kind) (x : Named) (t : Placed) (v : List Placed) → kind t ≡ k → NameRest k x v → NameText x (t ∷ v)
-    to (KWord o n) x t v e h = (ap name_of e ∙ ap Some (sym h.0), h.1)
-    to _ x t v e h = absurd h
-
-    from : (x : Named) (t : Placed) (v : List Placed) → NameText x (t ∷ v) → NameRest (kind t) x v
-    from x t v h = by_name (λ k. NameRest k x v) x (kind t) h.0 (λ o. (refl, h.1))
-
-name_each : (On : Type 0) (k : Kind) → MoveGood On (name_move k) (name_move k) (NameRest k) (NameRest k) never
-name_each On (KWord o n) = done_good On n
-name_each On _ = (λ x w h. h, λ x w h. h)
-
-pub name_good : (On : Type 0) → Good On name_at name_at NameText NameText never
-name_good On = led_good kind On name_move name_move NameRest NameRest NameText NameText name_heads name_heads (name_each On)
+use Rattle.kola_load.proofs.SchemaSymbols.{schema_words}
 
 -- ---- types
 
@@ -49,47 +28,44 @@ abbrev LeafRest : Option TypeAt → Lang Placed TypeAt
 LeafRest (Some x) = Nothing x
 LeafRest None = λ x w. ⊥
 
-abbrev TypeRest : ℕ → Kind → Lang Placed TypeAt
-TypeRest n (KWord (Some w.Set) m) = Deeper n (λ d. Made ASet (λ x. IsSign Less ▸ (TypeText x d · IsSign Greater ▸ ends)))
-TypeRest n k = LeafRest (leaf_of k)
+-- what a type goes by at its first token
+abbrev Lead : Type 0
+Lead = Kind × Option Named
+
+abbrev lead : Placed → Lead
+lead t = (kind t, name_of t)
+
+abbrev TypeRest : ℕ → Kind → Option Named → Lang Placed TypeAt
+TypeRest n (KWord w.Set) m = Deeper n (λ d. Made ASet (λ x. IsSign Less ▸ (TypeText x d · IsSign Greater ▸ ends)))
+TypeRest n k m = LeafRest (leaf_of k m)
+
+class_only : (m : Option Named) (x : TypeAt) → option_map AClass m ≡ Some (ASet x) → ⊥
+class_only None x e = cc
+class_only (Some n) x e = cc
 
 -- no token is a set alone
-no_set : (k : Kind) (x : TypeAt) → leaf_of k ≡ Some (ASet x) → ⊥
-no_set (KSign s) x e = cc
-no_set KOther x e = cc
-no_set (KWord None n) x e = cc
-no_set (KWord (Some w.Int) n) x e = cc
-no_set (KWord (Some w.Long) n) x e = cc
-no_set (KWord (Some w.String) n) x e = cc
-no_set (KWord (Some w.Bool) n) x e = cc
-no_set (KWord (Some w.Boolean) n) x e = cc
-no_set (KWord (Some w.Set) n) x e = cc
-no_set (KWord (Some v) n) x e = cc
+no_set : (k : Kind) (m : Option Named) (x : TypeAt) → leaf_of k m ≡ Some (ASet x) → ⊥
+no_set (KWord w.Int) m x e = cc
+no_set (KWord w.Long) m x e = cc
+no_set (KWord w.String) m x e = cc
+no_set (KWord w.Bool) m x e = cc
+no_set (KWord w.Boolean) m x e = cc
+no_set (KWord w.Set) m x e = cc
+no_set _ m x e = class_only m x e
 
-leaf_text : (n : ℕ) (x : TypeAt) (t : Placed) (v : List Placed) → leaf_of (kind t) ≡ Some x → ends v → TypeText x n (t ∷ v)
-leaf_text n (ASet x) t v e h = absurd (no_set (kind t) x e)
+leaf_text : (n : ℕ) (x : TypeAt) (t : Placed) (v : List Placed) → leaf t ≡ Some x → ends v → TypeText x n (t ∷ v)
+leaf_text n (ASet x) t v e h = absurd (no_set (kind t) (name_of t) x e)
 leaf_text n AInt t v e h = (e, h)
 leaf_text n AStr t v e h = (e, h)
 leaf_text n ABool t v e h = (e, h)
 leaf_text n (AClass m) t v e h = (e, h)
 
 -- a leaf behind its token
-leaf_rest : (n : ℕ) (k : Kind) (x : TypeAt) (v : List Placed) → leaf_of k ≡ Some x → ends v → TypeRest n k x v
-leaf_rest n (KWord (Some w.Set) m) x v e h = absurd cc
-leaf_rest n (KWord (Some w.Int) m) x v e h = (let i : AInt ≡ x = cc in sym i, h)
-leaf_rest n (KWord (Some w.Long) m) x v e h = (let i : AInt ≡ x = cc in sym i, h)
-leaf_rest n (KWord (Some w.String) m) x v e h = (let i : AStr ≡ x = cc in sym i, h)
-leaf_rest n (KWord (Some w.Bool) m) x v e h = (let i : ABool ≡ x = cc in sym i, h)
-leaf_rest n (KWord (Some w.Boolean) m) x v e h = (let i : ABool ≡ x = cc in sym i, h)
-leaf_rest n (KWord (Some w.Class) m) x v e h = (let i : AClass m ≡ x = cc in sym i, h)
-leaf_rest n (KWord (Some w.Extent) m) x v e h = (let i : AClass m ≡ x = cc in sym i, h)
-leaf_rest n (KWord (Some w.Key) m) x v e h = (let i : AClass m ≡ x = cc in sym i, h)
-leaf_rest n (KWord (Some w.Attribute) m) x v e h = (let i : AClass m ≡ x = cc in sym i, h)
-leaf_rest n (KWord None m) x v e h = (let i : AClass m ≡ x = cc in sym i, h)
-leaf_rest n (KSign s) x v e h = absurd cc
-leaf_rest n KOther x v e h = absurd cc
+leaf_rest : (n : ℕ) (k : Kind) (m : Option Named) (x : TypeAt) (v : List Placed) → leaf_of k m ≡ Some x → ends v → TypeRest n k m x v
+leaf_rest n (KWord w.Set) m x v e h = absurd cc
+leaf_rest n k m x v e h = subst (λ o. LeafRest o x v) (sym e) (refl, h)
 
-leaf_to : (n : ℕ) (o : Option TypeAt) (x : TypeAt) (t : Placed) (v : List Placed) → leaf_of (kind t) ≡ o → LeafRest o x v → TypeText x n (t ∷ v)
+leaf_to : (n : ℕ) (o : Option TypeAt) (x : TypeAt) (t : Placed) (v : List Placed) → leaf t ≡ o → LeafRest o x v → TypeText x n (t ∷ v)
 leaf_to n (Some y) x t v e h = leaf_text n x t v (e ∙ ap Some (sym h.0)) h.1
 leaf_to n None x t v e h = absurd h
 
@@ -97,26 +73,29 @@ set_to : (n : ℕ) (x : TypeAt) (t : Placed) (v : List Placed) → IsWord w.Set 
 set_to zero x t v e h = absurd h
 set_to (suc n) x t v e h = subst (λ y. TypeText y (suc n) (t ∷ v)) (sym h.is) (e, h.spells)
 
-set_from : (n : ℕ) (x : TypeAt) (t : Placed) (v : List Placed) → TypeText (ASet x) n (t ∷ v) → TypeRest n (kind t) (ASet x) v
+set_from : (n : ℕ) (x : TypeAt) (t : Placed) (v : List Placed) → TypeText (ASet x) n (t ∷ v) → TypeRest n (kind t) (name_of t) (ASet x) v
 set_from zero x t v h = absurd h
-set_from (suc n) x t v h = by_word (λ k. TypeRest (suc n) k (ASet x) v) w.Set (kind t) h.0 (λ m. record { part = x; is = refl; spells = h.1 })
+set_from (suc n) x t v h = subst (λ k. TypeRest (suc n) k (name_of t) (ASet x) v) (sym h.0) (record { part = x; is = refl; spells = h.1 })
 
-type_heads : (n : ℕ) → Heads kind (TypeRest n) (λ x. TypeText x n)
-type_heads n = record { to = to; from = from; empty = empty; some = record { tree = AInt; text = word_token w.Int ∷ []; spells = (int_is, tt) } }
+type_heads : (n : ℕ) → Heads lead (λ k. TypeRest n k.0 k.1) (λ x. TypeText x n)
+type_heads n = record { to = to; from = from; empty = empty; some = record { tree = AInt; text = word_token (word_spelling w.Int) ∷ []; spells = (int_is, tt) } }
   where
-    int_is : leaf_of (kind (word_token w.Int)) ≡ Some AInt
-    int_is = by_word (λ k. leaf_of k ≡ Some AInt) w.Int (kind (word_token w.Int)) (word_is w.Int) (λ n. refl)
+    int_is : leaf (word_token (word_spelling w.Int)) ≡ Some AInt
+    int_is = ap (λ k. leaf_of k (name_of (word_token (word_spelling w.Int)))) (word_is schema_words w.Int)
 
-    to : (k : Kind) (x : TypeAt) (t : Placed) (v : List Placed) → kind t ≡ k → TypeRest n k x v → TypeText x n (t ∷ v)
-    to (KWord (Some w.Set) m) x t v e h = set_to n x t v (ap word_of e) h
-    to k x t v e h = leaf_to n (leaf_of k) x t v (ap leaf_of e) h
+    by : (k : Kind) (m : Option Named) (x : TypeAt) (t : Placed) (v : List Placed) → kind t ≡ k → leaf t ≡ leaf_of k m → TypeRest n k m x v → TypeText x n (t ∷ v)
+    by (KWord w.Set) m x t v e i h = set_to n x t v e h
+    by k m x t v e i h = leaf_to n (leaf_of k m) x t v i h
 
-    from : (x : TypeAt) (t : Placed) (v : List Placed) → TypeText x n (t ∷ v) → TypeRest n (kind t) x v
+    to : (k : Lead) (x : TypeAt) (t : Placed) (v : List Placed) → lead t ≡ k → TypeRest n k.0 k.1 x v → TypeText x n (t ∷ v)
+    to k x t v e h = by k.0 k.1 x t v (ap (λ (z : Lead). z.0) e) (ap (λ (z : Lead). leaf_of z.0 z.1) e) h
+
+    from : (x : TypeAt) (t : Placed) (v : List Placed) → TypeText x n (t ∷ v) → TypeRest n (kind t) (name_of t) x v
     from (ASet x) t v h = set_from n x t v h
-    from AInt t v h = leaf_rest n (kind t) AInt v h.0 h.1
-    from AStr t v h = leaf_rest n (kind t) AStr v h.0 h.1
-    from ABool t v h = leaf_rest n (kind t) ABool v h.0 h.1
-    from (AClass m) t v h = leaf_rest n (kind t) (AClass m) v h.0 h.1
+    from AInt t v h = leaf_rest n (kind t) (name_of t) AInt v h.0 h.1
+    from AStr t v h = leaf_rest n (kind t) (name_of t) AStr v h.0 h.1
+    from ABool t v h = leaf_rest n (kind t) (name_of t) ABool v h.0 h.1
+    from (AClass m) t v h = leaf_rest n (kind t) (name_of t) (AClass m) v h.0 h.1
 
     empty_set : (n : ℕ) (x : TypeAt) → TypeText (ASet x) n [] → ⊥
     empty_set zero x h = h
@@ -137,20 +116,16 @@ leaf_each : (On : Type 0) (o : Option TypeAt) → MoveGood On (leaf_move o) (lea
 leaf_each On (Some x) = done_good On x
 leaf_each On None = (λ x w h. h, λ x w h. h)
 
-type_each : {On : Type 0} {o o' : Option (Reader TypeAt)} {n m : ℕ} → Inside Level On o o' n m → (k : Kind) → MoveGood On (type_move o k) (type_move o' k) (TypeRest n k) (TypeRest m k) never
-type_each {On} b (KWord (Some w.Set) a) =
-    deeper_good b (λ d. Made ASet (λ x. IsSign Less ▸ (TypeText x d · IsSign Greater ▸ ends))) _ (λ On i j d e l. made_good ASet never (ahead_sign Less (behind_sign Greater l)))
-type_each {On} b k = leaf_each On (leaf_of k)
+type_each : {On : Type 0} {o o' : Option (Reader TypeAt)} {n m : ℕ} → Inside Level On o o' n m → (k : Kind) (a : Option Named) → MoveGood On (type_move o k a) (type_move o' k a) (TypeRest n k a) (TypeRest m k a) never
+type_each {On} b (KWord w.Set) a =
+    deeper_good b (λ d. Made ASet (λ x. IsSign Less ▸ (TypeText x d · IsSign Greater ▸ ends))) _ (λ On i j d e l. made_good ASet never (ahead_sign schema_words Less (behind_sign schema_words Greater l)))
+type_each {On} b k a = leaf_each On (leaf_of k a)
 
-step_good : {On : Type 0} {o o' : Option (Reader TypeAt)} {n m : ℕ} → Inside Level On o o' n m → Level On (type_step o) (type_step o') n m
-step_good {On} {o} {o'} {n} {m} b = led_good kind On (type_move o) (type_move o') (TypeRest n) (TypeRest m) (λ x. TypeText x n) (λ x. TypeText x m) (type_heads n) (type_heads m) (type_each b)
-
-below_level : (d : ℕ) → Inside Level (Unit {0}) (below d) (below (suc d)) d (suc d)
-below_level zero = first (type_at zero) zero (step_good (bare (λ h. h)))
-below_level (suc d) = both (type_at d) (type_at (suc d)) d (suc d) (step_good (below_level d))
+step_good : (On : Type 0) (o o' : Option (Reader TypeAt)) (n m : ℕ) → Inside Level On o o' n m → Level On (type_step o) (type_step o') n m
+step_good On o o' n m b = led_good lead On (λ k. type_move o k.0 k.1) (λ k. type_move o' k.0 k.1) (λ k. TypeRest n k.0 k.1) (λ k. TypeRest m k.0 k.1) (λ x. TypeText x n) (λ x. TypeText x m) (type_heads n) (type_heads m) (λ k. type_each b k.0 k.1)
 
 pub type_good : (d : ℕ) → Level (Unit {0}) (type_at d) (type_at (suc d)) d (suc d)
-type_good d = step_good (below_level d)
+type_good d = levels Level type_step step_good d
 
 -- ---- names up to the parenthesis
 
@@ -161,7 +136,7 @@ abbrev Closed : List Placed → Type 0
 Closed = IsSign Close ▸ ends
 
 close_token : Closed (sign_token Close ∷ [])
-close_token = (sign_is Close, tt)
+close_token = (sign_is schema_words Close, tt)
 
 names_taken : IsTaken CommaName Closed
 names_taken = record { item = λ n h. h; last = λ h. h; text = sign_token Close ∷ []; is = close_token }
@@ -217,10 +192,10 @@ names_good On =
 
 -- ---- keys
 
-abbrev KeyRest : Kind → Lang Placed (List Named)
-KeyRest (KSign Open) = Opened
-KeyRest (KWord o n) = Nothing (n ∷ [])
-KeyRest _ = λ x w. ⊥
+abbrev KeyRest : Option Named → Kind → Lang Placed (List Named)
+KeyRest (Some n) k = Nothing (n ∷ [])
+KeyRest None (KSign Open) = Opened
+KeyRest None _ = λ x w. ⊥
 
 -- in parentheses or alone
 in_parentheses : (ns : List Named) (t : Placed) (v : List Placed) → IsSign Open t → Opened ns v → KeyText ns (t ∷ v)
@@ -228,22 +203,28 @@ in_parentheses [] t v e h = absurd h
 in_parentheses (n ∷ []) t v e h = inr (e, h)
 in_parentheses (n ∷ m ∷ ns) t v e h = (e, h)
 
-key_heads : Heads kind KeyRest KeyText
+key_heads : Heads lead (λ k. KeyRest k.1 k.0) KeyText
 key_heads = record { to = to; from = from; empty = empty; some = record { tree = some_name ∷ []; text = name_token some_name ∷ []; spells = inl (refl, tt) } }
   where
-    to : (k : Kind) (x : List Named) (t : Placed) (v : List Placed) → kind t ≡ k → KeyRest k x v → KeyText x (t ∷ v)
-    to (KSign Open) x t v e h = in_parentheses x t v e h
-    to (KWord o n) x t v e h = subst (λ y. KeyText y (t ∷ v)) (sym h.0) (inl (ap name_of e, h.1))
-    to _ x t v e h = absurd h
+    by : (m : Option Named) (k : Kind) (x : List Named) (t : Placed) (v : List Placed) → name_of t ≡ m → kind t ≡ k → KeyRest m k x v → KeyText x (t ∷ v)
+    by (Some n) k x t v i e h = subst (λ y. KeyText y (t ∷ v)) (sym h.0) (inl (i, h.1))
+    by None (KSign Open) x t v i e h = in_parentheses x t v e h
+    by None _ x t v i e h = absurd h
 
-    one : (n : Named) (t : Placed) (v : List Placed) → KeyText (n ∷ []) (t ∷ v) → KeyRest (kind t) (n ∷ []) v
-    one n t v (inl h) = by_name (λ k. KeyRest k (n ∷ []) v) n (kind t) h.0 (λ o. (refl, h.1))
-    one n t v (inr h) = subst (λ k. KeyRest k (n ∷ []) v) (sym h.0) h.1
+    to : (k : Lead) (x : List Named) (t : Placed) (v : List Placed) → lead t ≡ k → KeyRest k.1 k.0 x v → KeyText x (t ∷ v)
+    to k x t v e h = by k.1 k.0 x t v (ap (λ (z : Lead). z.1) e) (ap (λ (z : Lead). z.0) e) h
 
-    from : (x : List Named) (t : Placed) (v : List Placed) → KeyText x (t ∷ v) → KeyRest (kind t) x v
+    opened : (x : List Named) (t : Placed) (v : List Placed) → IsSign Open t → Opened x v → KeyRest (name_of t) (kind t) x v
+    opened x t v e h = subst (λ m. KeyRest m (kind t) x v) (sym (no_name schema_words Open t e)) (subst (λ k. KeyRest None k x v) (sym e) h)
+
+    one : (n : Named) (t : Placed) (v : List Placed) → KeyText (n ∷ []) (t ∷ v) → KeyRest (name_of t) (kind t) (n ∷ []) v
+    one n t v (inl h) = subst (λ m. KeyRest m (kind t) (n ∷ []) v) (sym h.0) (refl, h.1)
+    one n t v (inr h) = opened (n ∷ []) t v h.0 h.1
+
+    from : (x : List Named) (t : Placed) (v : List Placed) → KeyText x (t ∷ v) → KeyRest (name_of t) (kind t) x v
     from [] t v h = absurd h
     from (n ∷ []) t v h = one n t v h
-    from (n ∷ m ∷ ns) t v h = subst (λ k. KeyRest k (n ∷ m ∷ ns) v) (sym h.0) h.1
+    from (n ∷ m ∷ ns) t v h = opened (n ∷ m ∷ ns) t v h.0 h.1
 
     one_empty : (n : Named) → KeyText (n ∷ []) [] → ⊥
     one_empty n (inl h) = h
@@ -254,13 +235,13 @@ key_heads = record { to = to; from = from; empty = empty; some = record { tree =
     empty (n ∷ []) h = one_empty n h
     empty (n ∷ m ∷ ns) h = h
 
-key_each : (On : Type 0) (k : Kind) → MoveGood On (key_move k) (key_move k) (KeyRest k) (KeyRest k) never
-key_each On (KSign Open) = names_good On
-key_each On (KWord o n) = done_good On (n ∷ [])
-key_each On _ = (λ x w h. h, λ x w h. h)
+key_each : (On : Type 0) (m : Option Named) (k : Kind) → MoveGood On (key_move m k) (key_move m k) (KeyRest m k) (KeyRest m k) never
+key_each On (Some n) k = done_good On (n ∷ [])
+key_each On None (KSign Open) = names_good On
+key_each On None _ = (λ x w h. h, λ x w h. h)
 
 pub key_good : (On : Type 0) → Good On key_at key_at KeyText KeyText never
-key_good On = led_good kind On key_move key_move KeyRest KeyRest KeyText KeyText key_heads key_heads (key_each On)
+key_good On = led_good lead On (λ k. key_move k.1 k.0) (λ k. key_move k.1 k.0) (λ k. KeyRest k.1 k.0) (λ k. KeyRest k.1 k.0) KeyText KeyText key_heads key_heads (λ k. key_each On k.1 k.0)
 
 abbrev NextKey : Lang Placed (List Named)
 NextKey k = MayComma (IsWord w.Key ▸ KeyText k)
@@ -274,7 +255,7 @@ keys_taken = record { item = next_key_taken; last = λ h. h; text = sign_token C
 
 abbrev NextKeyRest : Kind → Lang Placed (Option (List Named))
 NextKeyRest (KSign Comma) = Made Some (λ k. IsWord w.Key ▸ KeyText k)
-NextKeyRest (KWord (Some w.Key) n) = Made Some KeyText
+NextKeyRest (KWord w.Key) = Made Some KeyText
 NextKeyRest (KSign Close) = Nothing None
 NextKeyRest _ = λ x w. ⊥
 
@@ -283,13 +264,13 @@ next_key_heads = record { to = to; from = from; empty = empty; some = record { t
   where
     to : (k : Kind) (x : Option (List Named)) (t : Placed) (v : List Placed) → kind t ≡ k → NextKeyRest k x v → ItemOr NextKey Closed x (t ∷ v)
     to (KSign Comma) x t v e h = subst (λ y. ItemOr NextKey Closed y (t ∷ v)) (sym h.is) (inl (e, h.spells))
-    to (KWord (Some w.Key) n) x t v e h = subst (λ y. ItemOr NextKey Closed y (t ∷ v)) (sym h.is) (inr (ap word_of e, h.spells))
+    to (KWord w.Key) x t v e h = subst (λ y. ItemOr NextKey Closed y (t ∷ v)) (sym h.is) (inr (e, h.spells))
     to (KSign Close) x t v e h = subst (λ y. ItemOr NextKey Closed y (t ∷ v)) (sym h.0) (e, h.1)
     to _ x t v e h = absurd h
 
     one : (k : List Named) (t : Placed) (v : List Placed) → NextKey k (t ∷ v) → NextKeyRest (kind t) (Some k) v
     one k t v (inl h) = subst (λ j. NextKeyRest j (Some k) v) (sym h.0) (record { part = k; is = refl; spells = h.1 })
-    one k t v (inr h) = by_word (λ j. NextKeyRest j (Some k) v) w.Key (kind t) h.0 (λ n. record { part = k; is = refl; spells = h.1 })
+    one k t v (inr h) = subst (λ j. NextKeyRest j (Some k) v) (sym h.0) (record { part = k; is = refl; spells = h.1 })
 
     from : (x : Option (List Named)) (t : Placed) (v : List Placed) → ItemOr NextKey Closed x (t ∷ v) → NextKeyRest (kind t) x v
     from (Some k) t v h = one k t v h
@@ -300,8 +281,8 @@ next_key_heads = record { to = to; from = from; empty = empty; some = record { t
     empty None h = h
 
 next_key_each : (On : Type 0) (k : Kind) → MoveGood On (next_key_move k) (next_key_move k) (NextKeyRest k) (NextKeyRest k) never
-next_key_each On (KSign Comma) = made_good Some never (ahead_word w.Key (key_good On))
-next_key_each On (KWord (Some w.Key) n) = made_good Some never (key_good On)
+next_key_each On (KSign Comma) = made_good Some never (ahead_word schema_words w.Key (key_good On))
+next_key_each On (KWord w.Key) = made_good Some never (key_good On)
 next_key_each On (KSign Close) = done_good On None
 next_key_each On _ = (λ x w h. h, λ x w h. h)
 
@@ -330,7 +311,7 @@ attribute_from d a v h = record { part = (a.type, a.name); is = refl; spells = h
 
 attribute_good : {On : Type 0} {i j : Reader TypeAt} {d e : ℕ} → Level On i j d e → Good On (attribute_at i) (attribute_at j) (AttributeText d) (AttributeText e) never
 attribute_good {On} {i} {j} {d} {e} l =
-    good_as (attribute_to d) (attribute_from d) (attribute_to e) (attribute_from e) (made_good attribute_of never (pair_good never l (λ x. behind_sign Semicolon (name_good On))))
+    good_as (attribute_to d) (attribute_from d) (attribute_to e) (attribute_from e) (made_good attribute_of never (pair_good never l (λ x. behind_sign schema_words Semicolon (name_good On))))
 
 abbrev NextAttribute : ℕ → Lang Placed AttributeAt
 NextAttribute d a = IsWord w.Attribute ▸ AttributeText d a
@@ -339,13 +320,13 @@ abbrev Braced : List Placed → Type 0
 Braced = IsSign RightBrace ▸ ends
 
 brace_token : Braced (sign_token RightBrace ∷ [])
-brace_token = (sign_is RightBrace, tt)
+brace_token = (sign_is schema_words RightBrace, tt)
 
 attributes_taken : (d : ℕ) → IsTaken (NextAttribute d) Braced
 attributes_taken d = record { item = λ a h. h; last = λ h. h; text = sign_token RightBrace ∷ []; is = brace_token }
 
 abbrev NextAttributeRest : ℕ → Kind → Lang Placed (Option AttributeAt)
-NextAttributeRest d (KWord (Some w.Attribute) n) = Made Some (AttributeText d)
+NextAttributeRest d (KWord w.Attribute) = Made Some (AttributeText d)
 NextAttributeRest d (KSign RightBrace) = Nothing None
 NextAttributeRest d _ = λ x w. ⊥
 
@@ -353,12 +334,12 @@ next_attribute_heads : (d : ℕ) → Heads kind (NextAttributeRest d) (ItemOr (N
 next_attribute_heads d = record { to = to; from = from; empty = empty; some = record { tree = None; text = sign_token RightBrace ∷ []; spells = brace_token } }
   where
     to : (k : Kind) (x : Option AttributeAt) (t : Placed) (v : List Placed) → kind t ≡ k → NextAttributeRest d k x v → ItemOr (NextAttribute d) Braced x (t ∷ v)
-    to (KWord (Some w.Attribute) n) x t v e h = subst (λ y. ItemOr (NextAttribute d) Braced y (t ∷ v)) (sym h.is) (ap word_of e, h.spells)
+    to (KWord w.Attribute) x t v e h = subst (λ y. ItemOr (NextAttribute d) Braced y (t ∷ v)) (sym h.is) (e, h.spells)
     to (KSign RightBrace) x t v e h = subst (λ y. ItemOr (NextAttribute d) Braced y (t ∷ v)) (sym h.0) (e, h.1)
     to _ x t v e h = absurd h
 
     from : (x : Option AttributeAt) (t : Placed) (v : List Placed) → ItemOr (NextAttribute d) Braced x (t ∷ v) → NextAttributeRest d (kind t) x v
-    from (Some a) t v h = by_word (λ k. NextAttributeRest d k (Some a) v) w.Attribute (kind t) h.0 (λ n. record { part = a; is = refl; spells = h.1 })
+    from (Some a) t v h = subst (λ k. NextAttributeRest d k (Some a) v) (sym h.0) (record { part = a; is = refl; spells = h.1 })
     from None t v h = subst (λ k. NextAttributeRest d k None v) (sym h.0) (refl, h.1)
 
     empty : (x : Option AttributeAt) → ItemOr (NextAttribute d) Braced x [] → ⊥
@@ -366,7 +347,7 @@ next_attribute_heads d = record { to = to; from = from; empty = empty; some = re
     empty None h = h
 
 next_attribute_each : {On : Type 0} {i j : Reader TypeAt} {d e : ℕ} → Level On i j d e → (k : Kind) → MoveGood On (next_attribute_move i k) (next_attribute_move j k) (NextAttributeRest d k) (NextAttributeRest e k) never
-next_attribute_each {On} l (KWord (Some w.Attribute) n) = made_good Some never (attribute_good l)
+next_attribute_each {On} l (KWord w.Attribute) = made_good Some never (attribute_good l)
 next_attribute_each {On} l (KSign RightBrace) = done_good On None
 next_attribute_each {On} l _ = (λ x w h. h, λ x w h. h)
 
@@ -394,4 +375,4 @@ body_from d c v h = record { part = (c.name, (c.extent, (c.keys, c.attributes)))
 pub body_good : {On : Type 0} {i j : Reader TypeAt} {d e : ℕ} → Level On i j d e → Good On (body_at i) (body_at j) (BodyText d) (BodyText e) never
 body_good {On} {i} {j} {d} {e} l =
     good_as (body_to d) (body_from d) (body_to e) (body_from e)
-    (made_good class_of never (pair_good never (name_good On) (λ n. ahead_sign Open (ahead_word w.Extent (pair_good never (name_good On) (λ m. pair_good never (keys_good On) (λ k. ahead_sign LeftBrace (attributes_good l))))))))
+    (made_good class_of never (pair_good never (name_good On) (λ n. ahead_sign schema_words Open (ahead_word schema_words w.Extent (pair_good never (name_good On) (λ m. pair_good never (keys_good On) (λ k. ahead_sign schema_words LeftBrace (attributes_good l))))))))

@@ -12,8 +12,9 @@ use Rattle.kola_parse.proofs.Chains.{MoveShrinks}
 use Rattle.kola_parse.proofs.ManyChains.{enough}
 use Rattle.kola_parse.proofs.Loops.{chain_goes, chain_ends, chain_stops}
 use Rattle.kola_load.specs.declared.schema_alphabet.Word.TheVariants as w
+use Rattle.kola_base.specs.Alphabets.{KWord}
 use Rattle.kola_load.specs.SchemaTree.{ClassAt}
-use Rattle.kola_load.specs.SchemaAlphabet.{Kind, KWord, kind}
+use Rattle.kola_load.specs.SchemaAlphabet.{Kind, kind}
 use Rattle.kola_load.specs.SchemaReaders.{type_at, body_at, end_at, class_move, next_class_move, next_class, grow}
 use Rattle.kola_load.proofs.SchemaLaws.{type_good}
 use Rattle.kola_load.proofs.SchemaWhole.{Rest, on_class, rest_good}
@@ -32,7 +33,7 @@ module _ (d : ℕ) where
   shrinks_text = shrinks class_text (Rest d) on_class reads
 
   small_at : (k : Kind) → MoveShrinks (class_move (type_at d) k)
-  small_at (KWord (Some w.Class) n) = shrinks_text
+  small_at (KWord w.Class) = shrinks_text
   small_at _ = tt
 
   small : (cs : List ClassAt) (t : Placed) → MoveShrinks (link cs t)
@@ -66,18 +67,18 @@ module _ (d : ℕ) where
 
   -- a link of the chain, by what the reader of one more class gives
   link_some : (n : ℕ) (k : Kind) (t : Placed) (ts : List Placed) (c : ClassAt) (r : List Placed) → may_at None (next_class_move (type_at d) k) t ts ≡ Ok (Some c, r) → (link_by (class_move (type_at d) k) (suc n) t ts ≡ Ok (Some (c, r))) × (length r ≤ length ts)
-  link_some n (KWord (Some w.Class) m) t ts c r e =
+  link_some n (KWord w.Class) t ts c r e =
       let one = some_read (class_text ts) c r e in
       (ap (λ (z : Answer Placed ClassAt). z >>= λ x. Ok (Some x)) one, subst (λ (z : Answer Placed ClassAt). length (left z) ≤ length ts) one (shrinks_text ts))
   link_some n _ t ts c r e = absurd (not_none c (sym (value_is None (Some c) (t ∷ ts) r e)))
 
   link_none : (n : ℕ) (k : Kind) (t : Placed) (ts r : List Placed) → may_at None (next_class_move (type_at d) k) t ts ≡ Ok (None, r) → (link_by (class_move (type_at d) k) (suc n) t ts ≡ Ok None) × (r ≡ t ∷ ts)
-  link_none n (KWord (Some w.Class) m) t ts r e = absurd (none_read (class_text ts) r e)
+  link_none n (KWord w.Class) t ts r e = absurd (none_read (class_text ts) r e)
   link_none n _ t ts r e = (refl, sym (rest_is None None (t ∷ ts) r e))
 
   link_fails : (n : ℕ) (k : Kind) (e : Stop (List Placed)) (t : Placed) (ts : List Placed) → Fails e (may_at None (next_class_move (type_at d) k) t ts) → Fails e (link_by (class_move (type_at d) k) (suc n) t ts)
   link_fails n k Memory t ts h = tt
-  link_fails n (KWord (Some w.Class) m) (Before y r) t ts h = fault_read (class_text ts) (Before y r) h
+  link_fails n (KWord w.Class) (Before y r) t ts h = fault_read (class_text ts) (Before y r) h
   link_fails n _ (Before y r) t ts h = absurd cc
 
   abbrev all : List ClassAt → List Placed → Answer Placed (List ClassAt)

@@ -12,21 +12,21 @@ use Rattle.kola_parse.proofs.ReaderLaws.{ends_none, done_reads}
 use Rattle.kola_parse.proofs.GoodReaders.{next_good, good_as, whole_sound, whole_complete, whole_fault}
 use Rattle.kola_parse.proofs.Options.{may_good, stop_good}
 use Rattle.kola_parse.proofs.ManyChains.{manied_good}
-use Rattle.kola_load.specs.declared.schema_alphabet.Sign.TheVariants.{Semicolon}
+use Rattle.kola_base.specs.declared.sign.Sign.TheVariants.{Semicolon}
+use Rattle.kola_base.specs.Alphabets.{KSign, KWord}
 use Rattle.kola_load.specs.declared.schema_alphabet.Word.TheVariants as w
 use Rattle.kola_load.specs.SchemaTree.{TypeAt, ClassAt}
-use Rattle.kola_load.specs.SchemaAlphabet.{Kind, KSign, KWord, kind, word_of}
+use Rattle.kola_load.specs.SchemaAlphabet.{Kind, kind}
 use Rattle.kola_load.specs.SchemaGrammar.{BodyText, EndText, ClassText, SchemaText}
 use Rattle.kola_load.specs.SchemaAccepted.{Schemas}
-use Rattle.kola_load.specs.SchemaReaders.{Reader, is_sign, sign, body_at, end_move, end_at, class_move, grow, classes_at, schema_at}
-use Rattle.kola_load.proofs.SchemaSymbols.{by_word}
+use Rattle.kola_load.specs.SchemaReaders.{Reader, is_semicolon, body_at, end_move, end_at, class_move, grow, classes_at, schema_at}
 use Rattle.kola_load.proofs.SchemaLaws.{Level, type_good, body_good}
 
 -- ---- a semicolon or none
 
 -- a semicolon goes on a class, whatever its text, since a second one is refused
 abbrev pub on_class : ClassAt → Placed → Bool
-on_class c = sign Semicolon
+on_class c t = is_semicolon (kind t)
 
 abbrev EndRest : ClassAt → Kind → Lang Placed ClassAt
 EndRest c (KSign Semicolon) = Nothing c
@@ -35,8 +35,8 @@ EndRest c _ = λ x w. ⊥
 abbrev Ended : ClassAt → Lang Placed ClassAt
 Ended c = Maybe c (λ t. EndRest c (kind t))
 
-end_each : (On : Type 0) (c : ClassAt) (k : Kind) → MayGood On (end_move c k) (end_move c k) (EndRest c k) (EndRest c k) on_class (is_sign Semicolon k)
-end_each On c (KSign Semicolon) = (stop_good On (sign Semicolon) c, refl)
+end_each : (On : Type 0) (c : ClassAt) (k : Kind) → MayGood On (end_move c k) (end_move c k) (EndRest c k) (EndRest c k) on_class (is_semicolon k)
+end_each On c (KSign Semicolon) = (stop_good On (λ t. is_semicolon (kind t)) c, refl)
 end_each On c _ = (λ x w h. h, λ x w h. h, refl)
 
 end_good : (On : Type 0) (c : ClassAt) → Good On (end_at c) (end_at c) (Ended c) (Ended c) on_class
@@ -74,24 +74,24 @@ rest_good {On} {i} {j} {d} {e} l = good_as (rest_to d) (rest_from d) (rest_to e)
 -- ---- the classes
 
 abbrev ClassRest : ℕ → Kind → Lang Placed ClassAt
-ClassRest d (KWord (Some w.Class) n) = Rest d
+ClassRest d (KWord w.Class) = Rest d
 ClassRest d _ = λ x w. ⊥
 
 -- a semicolon goes on a list of classes where there is one, and a class always does
 abbrev behind_last : List ClassAt → Kind → Bool
 behind_last [] k = false
-behind_last (c ∷ cs) k = is_sign Semicolon k
+behind_last (c ∷ cs) k = is_semicolon k
 
 abbrev goes_on : List ClassAt → Kind → Bool
-goes_on cs (KWord (Some w.Class) n) = true
+goes_on cs (KWord w.Class) = true
 goes_on cs k = behind_last cs k
 
-word_apart : (cs : List ClassAt) (n : _) → behind_last cs (KWord (Some w.Class) n) ≡ false
-word_apart [] n = refl
-word_apart (c ∷ cs) n = refl
+word_apart : (cs : List ClassAt) → behind_last cs (KWord w.Class) ≡ false
+word_apart [] = refl
+word_apart (c ∷ cs) = refl
 
 class_link : {On : Type 0} {i j : Reader TypeAt} {d e : ℕ} → Level On i j d e → (cs : List ClassAt) (k : Kind) → LinkGood On (class_move i k) (class_move j k) (ClassRest d k) (ClassRest e k) on_class (behind_last cs k) (goes_on cs k)
-class_link l cs (KWord (Some w.Class) n) = (rest_good l, refl, word_apart cs n)
+class_link l cs (KWord w.Class) = (rest_good l, refl, word_apart cs)
 class_link l cs _ = (λ x w h. h, λ x w h. h, refl)
 
 last_is : (cs : List ClassAt) (c : ClassAt) (t : Placed) → behind_last (grow cs c) (kind t) ≡ on_class c t
@@ -118,7 +118,7 @@ abbrev Chain : ℕ → List ClassAt → Placed → Lang Placed ClassAt
 Chain d cs t = ClassRest d (kind t)
 
 class_of_rest : (d : ℕ) (c : ClassAt) (t : Placed) (k : Kind) (v : List Placed) → kind t ≡ k → ClassRest d k c v → ClassText d c (t ∷ v)
-class_of_rest d c t (KWord (Some w.Class) n) v e h = (ap word_of e, h)
+class_of_rest d c t (KWord w.Class) v e h = (e, h)
 class_of_rest d c t _ v e h = absurd h
 
 chain_to : (d n : ℕ) (a x : List ClassAt) (v : List Placed) → ChainText (Chain d) grow n a x v → (cs : List ClassAt) × (x ≡ a ++ cs) × SchemaText cs d v
@@ -152,7 +152,7 @@ chain_from d (c ∷ cs) a v h = led h.front h.back h.split h.first (chain_from d
         front = front;
         back = back;
         split = refl;
-        first = by_word (λ k. ClassRest d k c front) w.Class (kind t) f.0 (λ n. f.1);
+        first = subst (λ k. ClassRest d k c front) (sym f.0) f.1;
         second = subst (λ z. ChainText (Chain d) grow more.0 (grow a c) z back) (append_assoc a (c ∷ []) cs) more.1;
       }),
     )

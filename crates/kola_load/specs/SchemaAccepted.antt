@@ -1,14 +1,13 @@
 -- What a text of a schema is, and where a text that is none is at fault.
-use Rattle.std.specs.Prelude.{◌≡◌, ℕ, List, Result, Ok, Err, length}
-use Rattle.kola_base.specs.declared.lex.Token.{Token}
-use Rattle.kola_base.specs.Tokens.{AreTokens, StopsAt}
-use Rattle.kola_base.specs.Placed.{Placed, placed, place}
-use Rattle.kola_parse.specs.declared.stop.Stop.{Stop}
-use Rattle.kola_parse.specs.declared.stop.Stop.TheVariants as stop
-use Rattle.kola_parse.specs.declared.why.Why.{Why}
+use Rattle.std.specs.Prelude.{◌≡◌, ℕ, List, Result, Ok, Err}
+use Rattle.kola_base.specs.declared.text_fault.TextWhy.{TextWhy}
+use Rattle.kola_base.specs.declared.text_fault.TextWhy.TheVariants as texts
+use Rattle.kola_base.specs.declared.text_fault.TextFault.{TextFault}
+use Rattle.kola_base.specs.declared.text_fault.TextFault.TheVariants as fault
+use Rattle.kola_base.specs.Tokens.{StopsAt}
+use Rattle.kola_base.specs.Placed.{Placed}
+use Rattle.kola_base.specs.Spelled.{Spells, SyntaxAt}
 use Rattle.kola_parse.specs.declared.why.Why.TheVariants as why
-use Rattle.kola_parse.specs.Reader.{Fault}
-use Rattle.kola_parse.specs.Faults.{Accepted, Unlimited, IsFirstFault}
 use Rattle.kola_values.specs.Databases.{Classes}
 use Rattle.kola_load.specs.SchemaTree.{ClassAt}
 use Rattle.kola_load.specs.SchemaGrammar.{SchemaText}
@@ -26,39 +25,26 @@ use Rattle.kola_load.specs.declared.schema_fault.SchemaFault.TheVariants.{At, Me
 abbrev pub Schemas : ℕ → List ClassAt → List Placed → Type 0
 Schemas d cs = SchemaText cs d
 
--- the tokens of the text spell a schema without fault, which is S
+-- the text spells a schema without fault, which is S
 pub record Writes (d : ℕ) (text : List ℕ) (S : Classes) : Type 0 where
-  pub tokens : List Token
-  pub are : AreTokens tokens text
   pub tree : List ClassAt
-  pub spells : SchemaText tree d (placed text tokens)
+  pub spells : Spells (Schemas d) text tree
   pub fine : (m : Mark) → Stands tree m → ⊥
   pub is : S ≡ plain tree
 
 -- ---- faults
 
--- the syntax of the text is at fault first at this place, for this reason
-pub record SyntaxAt (d : ℕ) (text : List ℕ) (at : ℕ) (w : Why) : Type 0 where
-  pub tokens : List Token
-  pub are : AreTokens tokens text
-  pub fault : Fault Placed
-  pub first : IsFirstFault (Accepted Schemas d) (Unlimited Schemas) (placed text tokens) fault
-  pub is_at : at ≡ place (length text) fault.rest
-  pub is_why : w ≡ fault.why
-
 -- the text spells a schema, whose names are at fault first at this place, for this reason
 pub record NameAt (d : ℕ) (text : List ℕ) (at : ℕ) (w : NameWhy) : Type 0 where
-  pub tokens : List Token
-  pub are : AreTokens tokens text
   pub tree : List ClassAt
-  pub spells : SchemaText tree d (placed text tokens)
+  pub spells : Spells (Schemas d) text tree
   pub first : IsFirst tree (record { at = at; why = w })
 
 -- a text is at fault where it has no tokens, else where its syntax is, and else where its names are
 abbrev pub FaultOf : ℕ → List ℕ → ℕ → SchemaWhy → Type 0
 FaultOf d text at (Lex w) = StopsAt text at w
-FaultOf d text at Unexpected = SyntaxAt d text at why.Unexpected
-FaultOf d text at TooDeep = SyntaxAt d text at why.TooDeep
+FaultOf d text at Unexpected = SyntaxAt Schemas d text at why.Unexpected
+FaultOf d text at TooDeep = SyntaxAt Schemas d text at why.TooDeep
 FaultOf d text at NameNotAllowed = NameAt d text at name.NotAllowed
 FaultOf d text at TwiceDefined = NameAt d text at name.TwiceDefined
 FaultOf d text at UnknownClass = NameAt d text at name.UnknownClass
@@ -76,9 +62,14 @@ IsSchema S (Err (At at w)) = ⊥
 
 -- ---- causes as those of a text
 
-abbrev pub syntax_why : Why → SchemaWhy
-syntax_why why.Unexpected = Unexpected
-syntax_why why.TooDeep = TooDeep
+abbrev pub of_cause : TextWhy → SchemaWhy
+of_cause (texts.Lex w) = Lex w
+of_cause texts.Unexpected = Unexpected
+of_cause texts.TooDeep = TooDeep
+
+abbrev pub of_text : TextFault → SchemaFault
+of_text fault.Memory = Memory
+of_text (fault.At at w) = At at (of_cause w)
 
 abbrev pub name_why : NameWhy → SchemaWhy
 name_why name.NotAllowed = NameNotAllowed
@@ -90,11 +81,6 @@ name_why name.UnknownKeyAttribute = UnknownKeyAttribute
 abbrev pub IsMarked : List ClassAt → SchemaFault → Type 0
 IsMarked cs Memory = Unit {0}
 IsMarked cs (At at w) = (y : NameWhy) × (w ≡ name_why y) × IsFirst cs (record { at = at; why = y })
-
--- the fault is where the syntax stopped, in a text of so many bytes
-abbrev pub IsStopped : ℕ → Stop (List Placed) → SchemaFault → Type 0
-IsStopped end stop.Memory f = f ≡ Memory
-IsStopped end (stop.Before y r) f = f ≡ At (place end r) (syntax_why y)
 
 -- what is answered is the fault, unless memory ran out
 abbrev pub IsAt : ℕ → SchemaWhy → Result Classes SchemaFault → Type 0

@@ -1,13 +1,15 @@
 -- Which tokens spell a schema: by cases on the schema. d is how many sets may nest in a type.
-use Rattle.std.specs.Prelude.{◌≡◌, ◌⊎◌, ℕ, zero, suc, List, [], ◌∷◌, Option, Some, None}
+use Rattle.std.specs.Prelude.{◌≡◌, ◌⊎◌, ℕ, zero, suc, List, [], ◌∷◌, Option, Some, None, option_map}
 use Rattle.kola_base.specs.Placed.{Placed}
 use Rattle.kola_parse.specs.Kinds.{leads}
 use Rattle.kola_parse.specs.Texts.{◌·◌, ends, none}
 use Rattle.kola_parse.specs.Listed.{Listed}
 use Rattle.kola_load.specs.SchemaTree.{Named, TypeAt, AInt, AStr, ABool, ASet, AClass, AttributeAt, ClassAt}
-use Rattle.kola_load.specs.SchemaAlphabet.{Kind, KWord, KSign, kind, word_of, name_of}
-use Rattle.kola_load.specs.declared.schema_alphabet.Sign.{Sign}
-use Rattle.kola_load.specs.declared.schema_alphabet.Sign.TheVariants.{Open, Close, LeftBrace, RightBrace, Less, Greater, Comma, Semicolon}
+use Rattle.kola_base.specs.declared.sign.Sign.{Sign}
+use Rattle.kola_base.specs.declared.sign.Sign.TheVariants.{Open, Close, LeftBrace, RightBrace, Less, Greater, Comma, Semicolon}
+use Rattle.kola_base.specs.Alphabets.{KSign, KWord}
+use Rattle.kola_base.specs.Named.{name_of, NameText}
+use Rattle.kola_load.specs.SchemaAlphabet.{Kind, kind}
 use Rattle.kola_load.specs.declared.schema_alphabet.Word.{Word}
 use Rattle.kola_load.specs.declared.schema_alphabet.Word.TheVariants as w
 
@@ -25,29 +27,27 @@ abbrev pub IsSign : Sign → Placed → Type 0
 IsSign s t = kind t ≡ KSign s
 
 abbrev pub IsWord : Word → Placed → Type 0
-IsWord w t = word_of (kind t) ≡ Some w
-
--- a name is any word
-abbrev pub NameText : Named → Text
-NameText n = (λ t. name_of (kind t) ≡ Some n) ▸ ends
+IsWord w t = kind t ≡ KWord w
 
 -- ---- types
 
 -- the type that a token is alone: a name is any word but those of types
-abbrev pub leaf_of : Kind → Option TypeAt
-leaf_of (KWord (Some w.Int) n) = Some AInt
-leaf_of (KWord (Some w.Long) n) = Some AInt
-leaf_of (KWord (Some w.String) n) = Some AStr
-leaf_of (KWord (Some w.Bool) n) = Some ABool
-leaf_of (KWord (Some w.Boolean) n) = Some ABool
-leaf_of (KWord (Some w.Set) n) = None
-leaf_of (KWord o n) = Some (AClass n)
-leaf_of _ = None
+abbrev pub leaf_of : Kind → Option Named → Option TypeAt
+leaf_of (KWord w.Int) n = Some AInt
+leaf_of (KWord w.Long) n = Some AInt
+leaf_of (KWord w.String) n = Some AStr
+leaf_of (KWord w.Bool) n = Some ABool
+leaf_of (KWord w.Boolean) n = Some ABool
+leaf_of (KWord w.Set) n = None
+leaf_of k n = option_map AClass n
+
+abbrev pub leaf : Placed → Option TypeAt
+leaf t = leaf_of (kind t) (name_of t)
 
 abbrev pub TypeText : TypeAt → ℕ → Text
 TypeText (ASet x) zero = none
 TypeText (ASet x) (suc d) = IsWord w.Set ▸ IsSign Less ▸ (TypeText x d · IsSign Greater ▸ ends)
-TypeText x d = (λ t. leaf_of (kind t) ≡ Some x) ▸ ends
+TypeText x d = (λ t. leaf t ≡ Some x) ▸ ends
 
 -- ---- keys
 

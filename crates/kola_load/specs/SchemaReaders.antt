@@ -1,43 +1,20 @@
 -- Reading schemas from left to right: what is read by the kind of the first token.
-use Rattle.std.specs.Prelude.{ℕ, zero, suc, Bool, false, List, [], ◌∷◌, ◌++◌, Option, Some, None}
-use Rattle.std.specs.Str.{bytes_eq}
+use Rattle.std.specs.Prelude.{ℕ, Bool, true, false, List, [], ◌∷◌, ◌++◌, Option, Some, None}
 use Rattle.kola_base.specs.Placed.{Placed}
 use Rattle.kola_parse.specs.Reader.{Answer, then, Move, Stray, Goes, eat, may, stop, done, pair, made, many}
 use Rattle.kola_parse.specs.Kinds.{ahead, behind, deeper}
 use Rattle.kola_parse.specs.Listed.{listed}
+use Rattle.kola_parse.specs.Levels.{below}
+use Rattle.kola_base.specs.declared.sign.Sign.TheVariants.{Open, Close, LeftBrace, RightBrace, Less, Greater, Comma, Semicolon}
+use Rattle.kola_base.specs.Alphabets.{KSign, KWord, sign, word}
+use Rattle.kola_base.specs.Named.{name_of, name_at}
 use Rattle.kola_load.specs.SchemaTree.{Named, TypeAt, ASet, AttributeAt, ClassAt}
-use Rattle.kola_load.specs.SchemaAlphabet.{sign_spelling, word_spelling, Kind, KSign, KWord, kind}
+use Rattle.kola_load.specs.SchemaAlphabet.{word_spelling, Kind, kind}
 use Rattle.kola_load.specs.SchemaGrammar.{leaf_of}
-use Rattle.kola_load.specs.declared.schema_alphabet.Sign.{Sign}
-use Rattle.kola_load.specs.declared.schema_alphabet.Sign.TheVariants.{Open, Close, LeftBrace, RightBrace, Less, Greater, Comma, Semicolon}
-use Rattle.kola_load.specs.declared.schema_alphabet.Word.{Word}
 use Rattle.kola_load.specs.declared.schema_alphabet.Word.TheVariants as w
 
 abbrev pub Reader : Type 0 → Type 0
 Reader A = List Placed → Answer Placed A
-
--- ---- tokens
-
-abbrev pub is_sign : Sign → Kind → Bool
-is_sign s (KSign r) = bytes_eq (sign_spelling r) (sign_spelling s)
-is_sign s _ = false
-
-abbrev pub sign : Sign → Placed → Bool
-sign s t = is_sign s (kind t)
-
-abbrev pub is_word : Word → Kind → Bool
-is_word w (KWord (Some v) n) = bytes_eq (word_spelling v) (word_spelling w)
-is_word w _ = false
-
-abbrev pub word : Word → Placed → Bool
-word w t = is_word w (kind t)
-
-abbrev pub name_move : Kind → Move Placed Named
-name_move (KWord o n) = Goes (done n)
-name_move _ = Stray
-
-abbrev pub name_at : Reader Named
-name_at = eat (λ t. name_move (kind t))
 
 -- ---- types
 
@@ -46,20 +23,16 @@ abbrev pub leaf_move : Option TypeAt → Move Placed TypeAt
 leaf_move (Some x) = Goes (done x)
 leaf_move None = Stray
 
-abbrev pub type_move : Option (Reader TypeAt) → Kind → Move Placed TypeAt
-type_move o (KWord (Some w.Set) n) = deeper o (λ i. made ASet (ahead (sign Less) (behind i (sign Greater))))
-type_move o k = leaf_move (leaf_of k)
+abbrev pub type_move : Option (Reader TypeAt) → Kind → Option Named → Move Placed TypeAt
+type_move o (KWord w.Set) n = deeper o (λ i. made ASet (ahead (sign Less) (behind i (sign Greater))))
+type_move o k n = leaf_move (leaf_of k n)
 
 abbrev pub type_step : Option (Reader TypeAt) → Reader TypeAt
-type_step o = eat (λ t. type_move o (kind t))
-
-abbrev pub below : ℕ → Option (Reader TypeAt)
-below zero = None
-below (suc d) = Some (type_step (below d))
+type_step o = eat (λ t. type_move o (kind t) (name_of t))
 
 -- a type in which d sets may nest
 abbrev pub type_at : ℕ → Reader TypeAt
-type_at d = type_step (below d)
+type_at d = type_step (below type_step d)
 
 -- ---- keys
 
@@ -75,18 +48,18 @@ next_name = eat (λ t. next_name_move (kind t))
 abbrev pub names_at : Reader (List Named)
 names_at = then name_at (λ n. listed next_name (n ∷ []))
 
-abbrev pub key_move : Kind → Move Placed (List Named)
-key_move (KSign Open) = Goes names_at
-key_move (KWord o n) = Goes (done (n ∷ []))
-key_move _ = Stray
+abbrev pub key_move : Option Named → Kind → Move Placed (List Named)
+key_move (Some n) k = Goes (done (n ∷ []))
+key_move None (KSign Open) = Goes names_at
+key_move None _ = Stray
 
 abbrev pub key_at : Reader (List Named)
-key_at = eat (λ t. key_move (kind t))
+key_at = eat (λ t. key_move (name_of t) (kind t))
 
 -- behind keys: one more, or the parenthesis
 abbrev pub next_key_move : Kind → Move Placed (Option (List Named))
-next_key_move (KSign Comma) = Goes (made Some (ahead (word w.Key) key_at))
-next_key_move (KWord (Some w.Key) n) = Goes (made Some key_at)
+next_key_move (KSign Comma) = Goes (made Some (ahead (word (word_spelling w.Key)) key_at))
+next_key_move (KWord w.Key) = Goes (made Some key_at)
 next_key_move (KSign Close) = Goes (done None)
 next_key_move _ = Stray
 
@@ -106,7 +79,7 @@ attribute_at type = made attribute_of (pair type (λ _. behind name_at (sign Sem
 
 -- behind attributes: one more, or the brace
 abbrev pub next_attribute_move : Reader TypeAt → Kind → Move Placed (Option AttributeAt)
-next_attribute_move type (KWord (Some w.Attribute) n) = Goes (made Some (attribute_at type))
+next_attribute_move type (KWord w.Attribute) = Goes (made Some (attribute_at type))
 next_attribute_move type (KSign RightBrace) = Goes (done None)
 next_attribute_move type _ = Stray
 
@@ -121,23 +94,27 @@ class_of x = record { name = x.0; extent = x.1.0; keys = x.1.1.0; attributes = x
 
 abbrev pub body_at : Reader TypeAt → Reader ClassAt
 body_at type =
-    made class_of (pair name_at (λ _. ahead (sign Open) (ahead (word w.Extent) (pair name_at (λ _. pair keys_at (λ _. ahead (sign LeftBrace) (attributes_at type)))))))
+    made class_of (pair name_at (λ _. ahead (sign Open) (ahead (word (word_spelling w.Extent)) (pair name_at (λ _. pair keys_at (λ _. ahead (sign LeftBrace) (attributes_at type)))))))
+
+abbrev pub is_semicolon : Kind → Bool
+is_semicolon (KSign Semicolon) = true
+is_semicolon _ = false
 
 -- a semicolon may stand behind a class, and no second one
 abbrev pub end_move : ClassAt → Kind → Move Placed ClassAt
-end_move c (KSign Semicolon) = Goes (stop (sign Semicolon) c)
+end_move c (KSign Semicolon) = Goes (stop (λ t. is_semicolon (kind t)) c)
 end_move c _ = Stray
 
 abbrev pub end_at : ClassAt → Reader ClassAt
 end_at c = may c (λ t. end_move c (kind t))
 
 abbrev pub class_move : Reader TypeAt → Kind → Move Placed ClassAt
-class_move type (KWord (Some w.Class) n) = Goes (then (body_at type) end_at)
+class_move type (KWord w.Class) = Goes (then (body_at type) end_at)
 class_move type _ = Stray
 
 -- one more class, or none, which takes nothing
 abbrev pub next_class_move : Reader TypeAt → Kind → Move Placed (Option ClassAt)
-next_class_move type (KWord (Some w.Class) n) = Goes (made Some (then (body_at type) end_at))
+next_class_move type (KWord w.Class) = Goes (made Some (then (body_at type) end_at))
 next_class_move type _ = Stray
 
 abbrev pub next_class : Reader TypeAt → Reader (Option ClassAt)

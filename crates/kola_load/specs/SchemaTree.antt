@@ -1,9 +1,6 @@
 -- A schema as it is written, each name with the place where it stands.
-use Rattle.std.specs.Prelude.{ℕ, List}
-
-pub record Named : Type 0 where
-  pub name : List ℕ
-  pub at : ℕ
+use Rattle.std.specs.Prelude.{List}
+pub use Rattle.kola_base.specs.Named.{Named}
 
 pub data TypeAt : Type 0 where
   AInt AStr ABool : TypeAt

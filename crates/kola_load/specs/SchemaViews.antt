@@ -1,23 +1,13 @@
--- What the program's kinds and trees of schemas are.
+-- What the program's trees of schemas are.
 use Rattle.std.specs.Prelude.{List, map, Vec}
 use Rattle.std.specs.declared.alloc.Global.{Global}
-use Rattle.kola_load.specs.declared.schema_alphabet.Kind as kind
-use Rattle.kola_load.specs.declared.schema_alphabet.Kind.TheVariants as kinds
-use Rattle.kola_load.specs.declared.schema_tree.Named as named
+use Rattle.kola_base.specs.declared.named.Named as named
+pub use Rattle.kola_base.specs.NamedViews.{named_view}
 use Rattle.kola_load.specs.declared.schema_tree.TypeAt as type
 use Rattle.kola_load.specs.declared.schema_tree.TypeAt.TheVariants as types
 use Rattle.kola_load.specs.declared.schema_tree.AttributeAt as attribute
 use Rattle.kola_load.specs.declared.schema_tree.ClassAt as class
 use Rattle.kola_load.specs.SchemaTree.{Named, TypeAt, AInt, AStr, ABool, ASet, AClass, AttributeAt, ClassAt}
-use Rattle.kola_load.specs.SchemaAlphabet.{Kind, KSign, KWord, KOther}
-
-abbrev pub named_view : named.Named → Named
-named_view n = record { name = n.name.now; at = n.at }
-
-abbrev pub kind_view : kind.Kind → Kind
-kind_view (kinds.Sign s) = KSign s
-kind_view (kinds.Word w n) = KWord w (named_view n)
-kind_view kinds.Other = KOther
 
 abbrev pub type_view : type.TypeAt → TypeAt
 type_view types.Int = AInt

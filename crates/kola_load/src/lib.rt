@@ -34,5 +34,3 @@ pub use schema_read::read_schema;
 mod db_samples;
 #[cfg(test)]
 mod db_tests;
-#[cfg(test)]
-mod schema_tests;

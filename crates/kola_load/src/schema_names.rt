@@ -8,7 +8,8 @@ ghost use Rattle.kola_load.specs.FirstMarks.{goes_before, earlier, unless, first
 ghost use Rattle.kola_load.specs.SchemaViews.{named_view, type_view, key_view, attribute_view, class_view};
 
 use crate::schema_fault::{Mark, NameWhy};
-use crate::schema_tree::{AttributeAt, ClassAt, Named, TypeAt};
+use crate::schema_tree::{AttributeAt, ClassAt, TypeAt};
+use kola_base::Named;
 use kola_core::{Memory, NameTable};
 use std::alloc::Global;
 

@@ -7,7 +7,8 @@ ghost use Rattle.kola_load.specs.SchemaFaults.{names};
 ghost use Rattle.kola_load.specs.SchemaViews.{named_view, type_view, key_view, attribute_view, class_view};
 ghost use Rattle.kola_load.specs.PlainSchemas.{plain_type, plain_attribute, plain_class, plain};
 
-use crate::schema_tree::{AttributeAt, ClassAt, Named, TypeAt};
+use crate::schema_tree::{AttributeAt, ClassAt, TypeAt};
+use kola_base::Named;
 use kola_core::{Items, Memory, Name, Names};
 use kola_schema::{ClassDef, Keys};
 use kola_values::{BoxedTy, Fields, Ty};

@@ -5,7 +5,7 @@ ghost use Rattle.kola_values.specs.Databases.{Classes};
 ghost use Rattle.kola_load.specs.SchemaFaults.{Stands};
 ghost use Rattle.kola_load.specs.SchemaViews.{class_view};
 ghost use Rattle.kola_load.specs.PlainSchemas.{plain, HaveKeys};
-ghost use Rattle.kola_load.specs.SchemaAccepted.{Writes, FaultOf, IsFault, IsAt, IsSchema, IsMarked, IsStopped, syntax_why, name_why};
+ghost use Rattle.kola_load.specs.SchemaAccepted.{Writes, FaultOf, IsFault, IsAt, IsSchema, IsMarked, of_text, name_why};
 ghost use Rattle.kola_load.specs.declared.schema_fault.Mark.{Mark};
 ghost use Rattle.kola_load.specs.declared.schema_fault.SchemaWhy.{SchemaWhy};
 
@@ -14,20 +14,27 @@ use crate::schema_names::first_mark;
 use crate::schema_plain::plain_classes;
 use crate::schema_syntax::schema_of;
 use crate::schema_tree::ClassAt;
-use kola_base::{LexFault, Lexemes, tokens};
-use kola_parse::{Stop, Why};
+use kola_base::{Lexemes, TextFault, TextWhy, fault_at, tokens};
 use kola_schema::Schema;
 use std::alloc::Global;
 
 /// How many sets may nest in a type.
 pub(crate) const SETS: usize = 100;
 
-fn syntax_why(why: Why) -> SchemaWhy
-    ensures { result ≡ syntax_why why }
+/// A fault of the tokens or of the syntax as one of a schema.
+fn of_text(fault: TextFault) -> SchemaFault
+    ensures { result ≡ of_text fault }
 {
-    match why {
-        Why::Unexpected => SchemaWhy::Unexpected,
-        Why::TooDeep => SchemaWhy::TooDeep,
+    match fault {
+        TextFault::Memory => SchemaFault::Memory,
+        TextFault::At { at, why } => SchemaFault::At {
+            at,
+            why: match why {
+                TextWhy::Lex(why) => SchemaWhy::Lex(why),
+                TextWhy::Unexpected => SchemaWhy::Unexpected,
+                TextWhy::TooDeep => SchemaWhy::TooDeep,
+            },
+        },
     }
 }
 
@@ -39,19 +46,6 @@ fn name_why(why: NameWhy) -> SchemaWhy
         NameWhy::TwiceDefined => SchemaWhy::TwiceDefined,
         NameWhy::UnknownClass => SchemaWhy::UnknownClass,
         NameWhy::UnknownKeyAttribute => SchemaWhy::UnknownKeyAttribute,
-    }
-}
-
-/// The fault where reading the syntax stopped, in a text of so many bytes.
-fn syntax_fault(stop: Stop<Lexemes<'_>>, end: usize) -> SchemaFault
-    ensures { IsStopped end stop.entry result }
-{
-    match stop {
-        Stop::Memory => SchemaFault::Memory,
-        Stop::Before(why, rest) => SchemaFault::At {
-            at: rest.place(end),
-            why: syntax_why(why),
-        },
     }
 }
 
@@ -74,22 +68,15 @@ fn checked(alloc: Global, classes: &[ClassAt<'_>]) -> Result<Schema, SchemaFault
 /// The schema that a text writes, where types nest at most so many sets.
 fn schema_within(alloc: Global, text: &[u8], sets: usize) -> Result<Schema, SchemaFault>
     ensures found { IfOk result (Writes sets text.now) }
-    ensures only { (S : Classes) → Writes sets text.now S → IsSchema S result }
     ensures fault { IfErr result (IsFault sets text.now) }
 {
     let tokens = match tokens(alloc, text) {
         Ok(tokens) => tokens,
-        Err(LexFault::Memory) => return Err(SchemaFault::Memory),
-        Err(LexFault::At { at, why }) => {
-            return Err(SchemaFault::At {
-                at,
-                why: SchemaWhy::Lex(why),
-            });
-        }
+        Err(fault) => return Err(of_text(TextFault::from(fault))),
     };
     match schema_of(alloc, Lexemes::from_token(text, &tokens, 0), sets) {
         Ok(classes) => checked(alloc, classes.as_slice()),
-        Err(stop) => Err(syntax_fault(stop, text.len())),
+        Err(stop) => Err(of_text(fault_at(stop, text.len()))),
     }
 }
 

@@ -1,78 +1,36 @@
 //! Reads a schema off the lexemes of its text, by the kind of the first one.
 
-ghost use Rattle.std.specs.Prelude.{◌≡◌, ◌+◌, Some, None, IfOk, IfErr, map};
+ghost use Rattle.std.specs.Prelude.{◌≡◌, map};
 ghost use Rattle.std.specs.Option.{option_map};
-ghost use Rattle.kola_parse.specs.Given.{Gives, StoppedDeep};
-ghost use Rattle.kola_parse.specs.Kinds.{expect};
+ghost use Rattle.kola_base.specs.Alphabets.{symbol_by};
+ghost use Rattle.kola_base.specs.AlphabetViews.{symbol_view};
+ghost use Rattle.kola_base.specs.LexemeViews.{lexeme_view};
+ghost use Rattle.kola_load.specs.SchemaAlphabet.{word_named};
+ghost use Rattle.kola_parse.specs.Given.{Gives};
 ghost use Rattle.kola_parse.specs.Reader.{whole};
-ghost use Rattle.kola_load.specs.SchemaReaders.{is_sign, is_word, sign, word, name_at, type_step, below, type_at, next_name, names_at, key_at, next_key, keys_at, attribute_at, next_attribute, attributes_at, body_at, end_at, next_class, schema_at};
-ghost use Rattle.kola_load.specs.SchemaViews.{named_view, kind_view, type_view, key_view, attribute_view, class_view};
+ghost use Rattle.kola_load.specs.SchemaGrammar.{leaf_of};
+ghost use Rattle.kola_load.specs.SchemaReaders.{type_at, next_name, names_at, key_at, next_key, keys_at, attribute_at, next_attribute, attributes_at, body_at, is_semicolon, end_at, next_class, schema_at};
+ghost use Rattle.kola_load.specs.SchemaViews.{named_view, type_view, key_view, attribute_view, class_view};
 
-use crate::schema_alphabet::{Kind, Sign, Word, kind_of};
-use crate::schema_tree::{AttributeAt, ClassAt, Named, TypeAt};
-use kola_base::Lexemes;
-use kola_parse::{Stop, Why};
+use crate::schema_alphabet::Word;
+use crate::schema_tree::{AttributeAt, ClassAt, TypeAt};
+use kola_base::{
+    Lexeme, Lexemes, Named, Sign, Symbol, expect_sign, expect_word, name_of, next_of, symbol_of,
+};
+use kola_parse::{Stop, inner_of, stray};
 use std::alloc::Global;
 
-fn is_sign(kind: &Kind<'_>, sign: Sign) -> bool
-    ensures { result ≡ is_sign sign (kind_view kind.now) }
+/// A type that is one word, which is the name of a class where it is none of those of types.
+fn leaf_of<'a>(word: Symbol<'_, Word>, name: Option<Named<'a>>) -> Option<TypeAt<'a>>
+    ensures { option_map type_view result ≡ leaf_of (symbol_view word.entry) (option_map named_view name.entry) }
 {
-    match kind {
-        Kind::Sign(found) => found.spelling() == sign.spelling(),
-        _ => false,
+    match word {
+        Symbol::Word(Word::Int | Word::Long) => Some(TypeAt::Int),
+        Symbol::Word(Word::String) => Some(TypeAt::Str),
+        Symbol::Word(Word::Bool | Word::Boolean) => Some(TypeAt::Bool),
+        Symbol::Word(Word::Set) => None,
+        _ => Some(TypeAt::Class(name?)),
     }
-}
-
-fn is_word(kind: &Kind<'_>, word: Word) -> bool
-    ensures { result ≡ is_word word (kind_view kind.now) }
-{
-    match kind {
-        Kind::Word(Some(found), _) => found.spelling() == word.spelling(),
-        _ => false,
-    }
-}
-
-/// What stands behind the sign.
-fn sign_of<'a>(expected: Sign, tokens: Lexemes<'a>) -> Result<Lexemes<'a>, Stop<Lexemes<'a>>>
-    ensures { Gives (λ x. (tt, x)) result (expect (sign expected) tokens.entry) }
-{
-    match tokens.split() {
-        Some((first, rest)) if is_sign(&kind_of(&first), expected) => Ok(rest),
-        _ => Err(Stop::Before(Why::Unexpected, tokens)),
-    }
-}
-
-/// What stands behind the word.
-fn word_of<'a>(expected: Word, tokens: Lexemes<'a>) -> Result<Lexemes<'a>, Stop<Lexemes<'a>>>
-    ensures { Gives (λ x. (tt, x)) result (expect (word expected) tokens.entry) }
-{
-    match tokens.split() {
-        Some((first, rest)) if is_word(&kind_of(&first), expected) => Ok(rest),
-        _ => Err(Stop::Before(Why::Unexpected, tokens)),
-    }
-}
-
-fn name_of<'a>(tokens: Lexemes<'a>) -> Result<(Named<'a>, Lexemes<'a>), Stop<Lexemes<'a>>>
-    ensures { Gives (λ x. (named_view x.0, x.1)) result (name_at tokens.entry) }
-{
-    let Some((first, rest)) = tokens.split() else {
-        return Err(Stop::Before(Why::Unexpected, tokens));
-    };
-    match kind_of(&first) {
-        Kind::Word(_, name) => Ok((name, rest)),
-        _ => Err(Stop::Before(Why::Unexpected, tokens)),
-    }
-}
-
-/// How many sets may nest below.
-fn inner_of<'a>(levels: usize, tokens: Lexemes<'a>) -> Result<usize, Stop<Lexemes<'a>>>
-    ensures ok { IfOk result (λ inner. (below levels ≡ Some (type_step (below inner))) × (inner + 1 ≡ levels)) }
-    ensures err { IfErr result (λ e. (below levels ≡ None) × StoppedDeep e tokens.entry) }
-{
-    if levels == 0 {
-        return Err(Stop::Before(Why::TooDeep, tokens));
-    }
-    Ok(levels - 1)
 }
 
 fn type_of<'a>(
@@ -82,40 +40,34 @@ fn type_of<'a>(
 ) -> Result<(TypeAt<'a>, Lexemes<'a>), Stop<Lexemes<'a>>>
     ensures { Gives (λ x. (type_view x.0, x.1)) result (type_at levels tokens.entry) }
 {
-    let Some((first, rest)) = tokens.split() else {
-        return Err(Stop::Before(Why::Unexpected, tokens));
-    };
-    match kind_of(&first) {
-        Kind::Word(Some(Word::Set), _) => {
-            let inner = inner_of(levels, tokens)?;
-            let rest = sign_of(Sign::Less, rest)?;
-            let (member, rest) = type_of(alloc, rest, inner)?;
-            let rest = sign_of(Sign::Greater, rest)?;
-            Ok((TypeAt::Set(Box::new(alloc, member)?), rest))
-        }
-        Kind::Word(Some(Word::Int | Word::Long), _) => Ok((TypeAt::Int, rest)),
-        Kind::Word(Some(Word::String), _) => Ok((TypeAt::Str, rest)),
-        Kind::Word(Some(Word::Bool | Word::Boolean), _) => Ok((TypeAt::Bool, rest)),
-        Kind::Word(Some(Word::Class | Word::Extent | Word::Key | Word::Attribute) | None, name) =>
-            Ok((TypeAt::Class(name), rest)),
-        Kind::Sign(_) | Kind::Other => Err(Stop::Before(Why::Unexpected, tokens)),
+    let (first, rest) = next_of(&tokens)?;
+    let name = first.name();
+    let symbol = symbol_of::<Word>(first.says);
+    if let Symbol::Word(Word::Set) = symbol {
+        let inner = inner_of(levels, tokens)?;
+        let rest = expect_sign(Sign::Less, rest)?;
+        let (member, rest) = type_of(alloc, rest, inner)?;
+        let rest = expect_sign(Sign::Greater, rest)?;
+        return Ok((TypeAt::Set(Box::new(alloc, member)?), rest));
     }
+    let Some(leaf) = leaf_of(symbol, name) else {
+        return stray(tokens);
+    };
+    Ok((leaf, rest))
 }
 
 /// One more name, or `None` where the parenthesis closes.
 fn next_name<'a>(tokens: Lexemes<'a>) -> Result<(Option<Named<'a>>, Lexemes<'a>), Stop<Lexemes<'a>>>
     ensures { Gives (λ x. (option_map named_view x.0, x.1)) result (next_name tokens.entry) }
 {
-    let Some((first, rest)) = tokens.split() else {
-        return Err(Stop::Before(Why::Unexpected, tokens));
-    };
-    match kind_of(&first) {
-        Kind::Sign(Sign::Comma) => {
+    let (first, rest) = next_of(&tokens)?;
+    match symbol_of::<Word>(first.says) {
+        Symbol::Sign(Sign::Comma) => {
             let (name, rest) = name_of(rest)?;
             Ok((Some(name), rest))
         }
-        Kind::Sign(Sign::Close) => Ok((None, rest)),
-        _ => Err(Stop::Before(Why::Unexpected, tokens)),
+        Symbol::Sign(Sign::Close) => Ok((None, rest)),
+        _ => return stray(tokens),
     }
 }
 
@@ -146,17 +98,15 @@ fn key_of<'a>(
 ) -> Result<(Vec<Named<'a>>, Lexemes<'a>), Stop<Lexemes<'a>>>
     ensures { Gives (λ x. (key_view x.0, x.1)) result (key_at tokens.entry) }
 {
-    let Some((first, rest)) = tokens.split() else {
-        return Err(Stop::Before(Why::Unexpected, tokens));
-    };
-    match kind_of(&first) {
-        Kind::Sign(Sign::Open) => names_of(alloc, rest),
-        Kind::Word(_, name) => {
-            let mut names = Vec::new(alloc);
-            names.push(name)?;
-            Ok((names, rest))
-        }
-        _ => Err(Stop::Before(Why::Unexpected, tokens)),
+    let (first, rest) = next_of(&tokens)?;
+    if let Some(name) = first.name() {
+        let mut names = Vec::new(alloc);
+        names.push(name)?;
+        return Ok((names, rest));
+    }
+    match symbol_of::<Word>(first.says) {
+        Symbol::Sign(Sign::Open) => names_of(alloc, rest),
+        _ => return stray(tokens),
     }
 }
 
@@ -167,21 +117,19 @@ fn next_key<'a>(
 ) -> Result<(Option<Vec<Named<'a>>>, Lexemes<'a>), Stop<Lexemes<'a>>>
     ensures { Gives (λ x. (option_map key_view x.0, x.1)) result (next_key tokens.entry) }
 {
-    let Some((first, rest)) = tokens.split() else {
-        return Err(Stop::Before(Why::Unexpected, tokens));
-    };
-    match kind_of(&first) {
-        Kind::Sign(Sign::Comma) => {
-            let rest = word_of(Word::Key, rest)?;
+    let (first, rest) = next_of(&tokens)?;
+    match symbol_of::<Word>(first.says) {
+        Symbol::Sign(Sign::Comma) => {
+            let rest = expect_word(Word::Key.spelling(), rest)?;
             let (key, rest) = key_of(alloc, rest)?;
             Ok((Some(key), rest))
         }
-        Kind::Word(Some(Word::Key), _) => {
+        Symbol::Word(Word::Key) => {
             let (key, rest) = key_of(alloc, rest)?;
             Ok((Some(key), rest))
         }
-        Kind::Sign(Sign::Close) => Ok((None, rest)),
-        _ => Err(Stop::Before(Why::Unexpected, tokens)),
+        Symbol::Sign(Sign::Close) => Ok((None, rest)),
+        _ => return stray(tokens),
     }
 }
 
@@ -214,7 +162,7 @@ fn attribute_of<'a>(
 {
     let (ty, rest) = type_of(alloc, tokens, levels)?;
     let (name, rest) = name_of(rest)?;
-    let rest = sign_of(Sign::Semicolon, rest)?;
+    let rest = expect_sign(Sign::Semicolon, rest)?;
     Ok((AttributeAt { ty, name }, rest))
 }
 
@@ -226,16 +174,14 @@ fn next_attribute<'a>(
 ) -> Result<(Option<AttributeAt<'a>>, Lexemes<'a>), Stop<Lexemes<'a>>>
     ensures { Gives (λ x. (option_map attribute_view x.0, x.1)) result (next_attribute (type_at levels) tokens.entry) }
 {
-    let Some((first, rest)) = tokens.split() else {
-        return Err(Stop::Before(Why::Unexpected, tokens));
-    };
-    match kind_of(&first) {
-        Kind::Word(Some(Word::Attribute), _) => {
+    let (first, rest) = next_of(&tokens)?;
+    match symbol_of::<Word>(first.says) {
+        Symbol::Word(Word::Attribute) => {
             let (attribute, rest) = attribute_of(alloc, rest, levels)?;
             Ok((Some(attribute), rest))
         }
-        Kind::Sign(Sign::RightBrace) => Ok((None, rest)),
-        _ => Err(Stop::Before(Why::Unexpected, tokens)),
+        Symbol::Sign(Sign::RightBrace) => Ok((None, rest)),
+        _ => return stray(tokens),
     }
 }
 
@@ -268,11 +214,11 @@ fn body_of<'a>(
     ensures { Gives (λ x. (class_view x.0, x.1)) result (body_at (type_at levels) tokens.entry) }
 {
     let (name, rest) = name_of(tokens)?;
-    let rest = sign_of(Sign::Open, rest)?;
-    let rest = word_of(Word::Extent, rest)?;
+    let rest = expect_sign(Sign::Open, rest)?;
+    let rest = expect_word(Word::Extent.spelling(), rest)?;
     let (extent, rest) = name_of(rest)?;
     let (keys, rest) = keys_of(alloc, rest)?;
-    let rest = sign_of(Sign::LeftBrace, rest)?;
+    let rest = expect_sign(Sign::LeftBrace, rest)?;
     let (attributes, rest) = attributes_of(alloc, rest, levels)?;
     Ok((
         ClassAt {
@@ -285,6 +231,12 @@ fn body_of<'a>(
     ))
 }
 
+fn is_semicolon(says: Lexeme<'_>) -> bool
+    ensures { result ≡ is_semicolon (symbol_by word_named (lexeme_view says.entry)) }
+{
+    matches!(symbol_of::<Word>(says), Symbol::Sign(Sign::Semicolon))
+}
+
 /// The class, and what stands behind the semicolon that may end it. A second semicolon is refused.
 fn ended<'a>(
     class: ClassAt<'a>,
@@ -295,14 +247,18 @@ fn ended<'a>(
     let Some((first, rest)) = tokens.split() else {
         return Ok((class, tokens));
     };
-    let Kind::Sign(Sign::Semicolon) = kind_of(&first) else {
+    if !is_semicolon(first.says) {
         return Ok((class, tokens));
-    };
+    }
     match rest.split() {
-        Some((second, _)) if is_sign(&kind_of(&second), Sign::Semicolon) => {
-            Err(Stop::Before(Why::Unexpected, rest))
+        Some((second, _)) => {
+            if is_semicolon(second.says) {
+                stray(rest)
+            } else {
+                Ok((class, rest))
+            }
         }
-        _ => Ok((class, rest)),
+        None => Ok((class, rest)),
     }
 }
 
@@ -317,8 +273,8 @@ fn next_class<'a>(
     let Some((first, rest)) = tokens.split() else {
         return Ok((None, tokens));
     };
-    match kind_of(&first) {
-        Kind::Word(Some(Word::Class), _) => {
+    match symbol_of::<Word>(first.says) {
+        Symbol::Word(Word::Class) => {
             let (class, rest) = body_of(alloc, rest, levels)?;
             let (class, rest) = ended(class, rest)?;
             Ok((Some(class), rest))
@@ -358,6 +314,6 @@ pub fn schema_of<'a>(
     let (classes, rest) = classes_of(alloc, tokens, levels)?;
     match rest.split() {
         None => Ok(classes),
-        Some(_) => Err(Stop::Before(Why::Unexpected, rest)),
+        Some(_) => stray(rest),
     }
 }

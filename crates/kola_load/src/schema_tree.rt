@@ -1,11 +1,6 @@
 //! A schema as it is written, each name with the place where it stands.
 
-/// A word of the text, and the place of its first byte, counted in bytes from 0.
-#[derive(Clone, Copy)]
-pub struct Named<'a> {
-    pub name: &'a str,
-    pub at: usize,
-}
+use kola_base::Named;
 
 /// The type of an attribute.
 #[derive(Drop)]

@@ -18,3 +18,8 @@ Gives view (Err e) read = Fails e read
 abbrev pub StoppedDeep : {T : Type 0} → Stop (List T) → List T → Type 0
 StoppedDeep Memory ts = ⊥
 StoppedDeep (Before why rest) ts = (why ≡ TooDeep) × (rest ≡ ts)
+
+-- A reading goes on from what a function of the code returned, unless it stopped there, or memory ran out.
+abbrev pub GoesOn : {T X Y : Type 0} → (X → Result Y (Fault T)) → Result X (Stop (List T)) → Result Y (Fault T) → Type 0
+GoesOn go (Ok x) read = read ≡ go x
+GoesOn go (Err e) read = Fails e read

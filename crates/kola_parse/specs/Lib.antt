@@ -4,5 +4,6 @@ pub mod Texts
 pub mod Reading
 pub mod Moves
 pub mod Given
+pub mod Levels
 pub mod Kinds
 pub mod Listed

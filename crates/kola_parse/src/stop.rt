@@ -1,7 +1,8 @@
 //! Why a reader stopped.
 
-ghost use Rattle.std.specs.Prelude.{◌≡◌};
-ghost use Rattle.kola_parse.specs.declared.stop.Stop.TheVariants.{Memory};
+ghost use Rattle.std.specs.Prelude.{◌≡◌, Err};
+ghost use Rattle.kola_parse.specs.declared.stop.Stop.TheVariants.{Memory, Before};
+ghost use Rattle.kola_parse.specs.declared.why.Why.TheVariants.{Unexpected};
 
 use crate::why::Why;
 use std::alloc::{AllocError, AllocFailed};
@@ -29,4 +30,11 @@ impl<R, X: Drop> From<AllocFailed<X>> for Stop<R> {
     fn from(_e: AllocFailed<X>) -> Self {
         Stop::Memory
     }
+}
+
+/// The answer that no text goes on with the first token of the rest.
+pub fn stray<X, R>(rest: R) -> Result<X, Stop<R>>
+    ensures { result ≡ Err (Before Unexpected rest) }
+{
+    Err(Stop::Before(Why::Unexpected, rest))
 }

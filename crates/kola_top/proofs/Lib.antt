@@ -4,7 +4,9 @@ pub mod FoundLaws
 mod RowLaws
 mod FormLaws
 pub mod FormReads
+mod Staged
 pub mod AnswerLaws
+pub mod StageLaws
 mod RunLaws
 mod AnswerExamples
 pub mod PlaceLaws

@@ -28,7 +28,8 @@ impl Duplicate for Value {
 
     ghost none = { refl };
 
-    ghost more = { λ vs ws v w p q. map_push value_tree vs v ∙ (λ i. p i ++ q i ∷ []) ∙ sym (map_push value_tree ws w) };
+    ghost more = { λ vs ws v w p q. map_push value_tree vs v ∙ (λ i. p i ++ q i ∷ []) ∙ sym
+        (map_push value_tree ws w) };
 
     fn copy(&self) -> Result<Value, Memory> {
         self.copy()

@@ -128,7 +128,8 @@ impl Model for Set {
     ghost use Rattle.kola_values.specs.Sets.{Rising, Each};
     ghost use Rattle.kola_values.specs.WellFormed.{WellFormed};
 
-    ghost invariant = { λ a. Rising (map value_tree a.members.value.items) × Each WellFormed (map value_tree a.members.value.items) };
+    ghost invariant = { λ a. Rising (map value_tree a.members.value.items)
+        × Each WellFormed (map value_tree a.members.value.items) };
 
     ghost use Rattle.kola_values.specs.Models.Weights.{values_weight};
 

@@ -1,6 +1,9 @@
 use Rattle.kola_load.specs.declared.schema_read.TheConstants.{SETS}
-use Rattle.kola_load.proofs.OneSchema.{one_schema, schema_or_fault, one_schema_fault}
+use Rattle.kola_load.proofs.OneSchema.{one_schema, schema_or_fault, one_schema_fault, schema_once}
 use Rattle.kola_load.proofs.schema_laws.a_text_is_one_schema_or_has_one_fault.Goals as goal
+
+pub returns-clause-some : goal.returns-clause-some
+returns-clause-some c = schema_once SETS c.args.text.now
 
 pub returns-clause-one_schema : goal.returns-clause-one_schema
 returns-clause-one_schema c S T h k = one_schema SETS c.args.text.now S T h k

@@ -1,15 +1,14 @@
 //! The first fault of the names of a schema.
 
 ghost use Rattle.std.specs.Prelude.{◌≡◌, [], map, IfOk};
-ghost use Rattle.std.specs.Str.{str_eq_ignore_ascii_case};
-ghost use Rattle.kola_load.specs.Names.{is_among, is_one_of, is_name, is_extent_name};
+ghost use Rattle.kola_load.specs.Names.{is_extent_name};
 ghost use Rattle.kola_load.specs.SchemaFaults.{starts_with_capital, rank};
 ghost use Rattle.kola_load.specs.FirstMarks.{goes_before, earlier, unless, first_of, not_allowed, names_from, twice, unknown_class, unknown_key, unknown_keys, unknown_types, first_in_class, first_mark};
 ghost use Rattle.kola_load.specs.SchemaViews.{named_view, type_view, key_view, attribute_view, class_view};
 
 use crate::schema_fault::{Mark, NameWhy};
 use crate::schema_tree::{AttributeAt, ClassAt, TypeAt};
-use kola_base::Named;
+use kola_base::{Alphabet, Named, TermWord, is_name};
 use kola_core::{Memory, NameTable};
 use std::alloc::Global;
 
@@ -60,49 +59,11 @@ fn starts_with_capital(name: &str) -> bool
     }
 }
 
-fn is_same_word(word: &[u8], other: &[u8]) -> bool
-    ensures { result ≡ str_eq_ignore_ascii_case word.now other.now }
-{
-    word.eq_ignore_ascii_case(other)
-}
-
-fn is_among(words: &[u8], word: &[u8]) -> bool
-    ensures { result ≡ is_among words.now word.now }
-{
-    words
-        .split(|byte| *byte == b' ')
-        .any(|other| is_same_word(word, other))
-}
-
-fn is_one_of(words: &[u8], word: &[u8]) -> bool
-    ensures { result ≡ is_one_of words.now word.now }
-{
-    words.split(|byte| *byte == b' ').any(|other| word == other)
-}
-
-/// Whether a word may be a name in a query: it is none of the words of queries, nor one of those that they leave out, in any case.
-#[tactic(auto, unfolding(crate::specs::Names::is_name))]
-pub fn is_name(word: &[u8]) -> bool
-    ensures { result ≡ is_name word.now }
-{
-    !is_among(
-        b"select distinct from where as in exists for all and or not union intersect except struct set flatten true false",
-        word,
-    ) && !is_among(
-        b"element first last unique sum avg min max count bag list array order group by having define nil undefined like",
-        word,
-    )
-}
-
 #[tactic(auto, unfolding(crate::specs::Names::is_extent_name))]
-fn is_extent_name(word: &[u8]) -> bool
+fn is_extent_name(word: &str) -> bool
     ensures { result ≡ is_extent_name word.now }
 {
-    is_name(word)
-        && !is_one_of(
-            b"id fst snd flat union isect minus o K C if iterate iter join nest unnest eq lt le in inv KP CP ex fa true false count rule block at when inj proof by rev qed here pred set unit int string bool SKIP FAIL BU TD REPEAT GIVEN DO END",
-            word,
-        )
+    is_name(word.as_bytes()) && TermWord::named(word).is_none()
 }
 
 fn not_allowed(class: &ClassAt<'_>) -> Option<Mark>
@@ -115,7 +76,7 @@ fn not_allowed(class: &ClassAt<'_>) -> Option<Mark>
             &class.name,
         ),
         unless(
-            is_extent_name(class.extent.name.as_bytes()),
+            is_extent_name(class.extent.name),
             NameWhy::NotAllowed,
             &class.extent,
         ),

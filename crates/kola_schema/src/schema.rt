@@ -77,8 +77,8 @@ fn is_stored_type(classes: &[ClassDef], t: &Ty) -> bool
 }
 
 fn are_stored_types(classes: &[ClassDef], entries: &[(Name, Ty)]) -> bool
-    ensures { result ≡ list_all
-        (λ e. is_stored_type (class_names (map class_tree classes.now)) (type_tree e.1)) entries.now }
+    ensures { result
+        ≡ list_all (λ e. is_stored_type (class_names (map class_tree classes.now)) (type_tree e.1)) entries.now }
 {
     entries
         .iter()

@@ -50,7 +50,7 @@ module _ (S : Classes) (x : Context) where
   child_fine t T n (m ∷ ns) (later i) a = child_fine t T n ns i a.1
   child_fine t T n [] i a = elim i [ ]
 
-  fine_small : (c : TermTree) (w u : TypeTree) → Fine S x c w u → Small S x c w
+  pub fine_small : (c : TermTree) (w u : TypeTree) → Fine S x c w u → Small S x c w
   fine_small (TermF f) w u h = h.1
   fine_small (TermP p) w u h = h.1
   fine_small (TermC k) w u h = only

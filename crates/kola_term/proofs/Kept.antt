@@ -28,7 +28,7 @@ kind_c f (TermC g) h = (g, refl)
 kind_c f (TermF g) h = absurd h
 kind_c f (TermP g) h = absurd h
 
-ok_same : (a b : Bool) → cond a (Some TBool) None ≡ cond b (Some TBool) None → a ≡ b
+pub ok_same : (a b : Bool) → cond a (Some TBool) None ≡ cond b (Some TBool) None → a ≡ b
 ok_same true true e = refl
 ok_same false false e = refl
 ok_same true false e = absurd (cc)
@@ -236,7 +236,7 @@ serves_itself S x o (TermF f) = (tt, λ w e. refl)
 serves_itself S x o (TermP f) = (tt, λ w e. refl)
 serves_itself S x o (TermC f) = (tt, λ w e. refl)
 
-lengths : (S : Classes) (x : Context) (t : TermTree) (u : TypeTree) → ServeAll S x (inputs S x t u) (children t) (children t)
+pub lengths : (S : Classes) (x : Context) (t : TermTree) (u : TypeTree) → ServeAll S x (inputs S x t u) (children t) (children t)
 lengths S x (TermF (FComp f g)) u = (serves_itself S x _ (TermF f), (serves_itself S x _ (TermF g), tt))
 lengths S x (TermF (FPair f g)) u = (serves_itself S x _ (TermF f), (serves_itself S x _ (TermF g), tt))
 lengths S x (TermF (FTimes f g)) u = (serves_itself S x _ (TermF f), (serves_itself S x _ (TermF g), tt))
@@ -258,7 +258,7 @@ lengths S x (TermP (PEx p)) u = (serves_itself S x _ (TermP p), tt)
 lengths S x (TermP (PFa p)) u = (serves_itself S x _ (TermP p), tt)
 lengths S x _ u = tt
 
-with_nth_serves : (S : Classes) (x : Context) (n : ℕ) (os : List (Option TypeTree)) (cs : List TermTree) (c e : TermTree) (w : TypeTree) → ServeAll S x os cs cs → nth n cs ≡ Some c → flatten (nth n os) ≡ Some w → Serves S x (Some w) c e → ServeAll S x os cs (with_nth n e cs)
+pub with_nth_serves : (S : Classes) (x : Context) (n : ℕ) (os : List (Option TypeTree)) (cs : List TermTree) (c e : TermTree) (w : TypeTree) → ServeAll S x os cs cs → nth n cs ≡ Some c → flatten (nth n os) ≡ Some w → Serves S x (Some w) c e → ServeAll S x os cs (with_nth n e cs)
 with_nth_serves S x n [] [] c e w h i j k = absurd (cc)
 with_nth_serves S x zero (o ∷ os) (b ∷ cs) c e w h i j k = absurd (cc)
 with_nth_serves S x (suc zero) (o ∷ os) (b ∷ cs) c e w h i j k = (subst (λ z. Serves S x z b e) (sym j) (subst (λ z. Serves S x (Some w) z e) (sym (some_same b c i)) k), h.1)

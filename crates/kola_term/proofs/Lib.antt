@@ -15,6 +15,7 @@ pub mod Faulty
 pub mod Unique
 mod AlgebraExamples
 mod Weights
+pub mod ByChildren
 mod WithoutLimit
 mod TypeAnswers
 pub mod Numbers
@@ -22,3 +23,7 @@ pub mod Replaced
 pub mod InputPlaces
 mod TypeExamples
 mod FaultExamples
+mod VisitExamples
+mod TypingExamples
+mod LimitExamples
+pub mod FineParts

@@ -1,5 +1,5 @@
--- The first fault of typing a term, as a relation.
-use Rattle.std.specs.Prelude.{ℕ, suc, nat_le, Bool, true, false, cond, List, [], ◌∷◌, ◌++◌, Option, Some, None, option_and_then, ◌≡◌}
+-- When a term is fine or fits, and the first fault of typing it, as a relation.
+use Rattle.std.specs.Prelude.{ℕ, suc, nat_le, Bool, true, false, cond, ◌≤◌, List, [], ◌∷◌, ◌++◌, Option, Some, None, option_and_then, ◌≡◌}
 use Rattle.kola_values.specs.Types.{TypeTree, TClass, same_type, type_nodes}
 use Rattle.kola_values.specs.Databases.{Classes, attribute_type, extent_class, look_up}
 use Rattle.kola_core.specs.Integers.{in_64}
@@ -7,12 +7,14 @@ use Rattle.kola_term.specs.Literals.{set_type}
 use Rattle.kola_term.specs.Terms.{ConstTree, CInt, CBool, CStr, CSet, CExtent, CMeta, FunTree, FFst, FSnd, FFlat, FUnion, FIsect, FMinus, FAttr, FComp, FTimes, FC, FIf, FIterate, FIter, FJoin, FNest, FUnnest, FMeta, PEq, PLt, PLe, PMember, PAt, PInv, PCP, PEx, PFa, PMeta, TermTree, TermF, TermP, TermC}
 use Rattle.kola_term.specs.Typing.{MetaTree, MFun, MPred, Context, out, is_typed, const_type, first_type, second_type, member_type, twin_type, iter_type, join_type, pair_of, one_of, const_of}
 use Rattle.kola_term.specs.Places.{children, inputs, nth, flatten, sub_at, place}
+use Rattle.kola_term.specs.Counts.{nodes, depth}
+use Rattle.kola_term.specs.Limits.{type_limit, node_limit, depth_limit}
 
 pub data TypeWhy : Type 0 where
   NotThisInput OutputsDiffer NoAttribute NoExtent WrongVariable TypeTooLarge : TypeWhy
 
 unfoldable pub small : TypeTree → Bool
-small t = nat_le (type_nodes t) 4096
+small t = nat_le (type_nodes t) type_limit
 
 -- ---- part 1: the node and its own input type
 
@@ -102,6 +104,12 @@ abbrev pub Fine : Classes → Context → TermTree → TypeTree → TypeTree →
 Fine S x (TermF f) t u = (out S x f t ≡ Some u) × Small S x (TermF f) t
 Fine S x (TermP p) t u = (is_typed S x p t ≡ true) × Small S x (TermP p) t
 Fine S x (TermC c) t u = const_type S x c ≡ Some u
+
+-- fine, and of no more nodes and no greater depth than the limits
+pub record Fits (S : Classes) (x : Context) (t : TermTree) (T u : TypeTree) : Type 0 where
+  pub few : nodes t ≤ node_limit
+  pub shallow : depth t ≤ depth_limit
+  pub fine : Fine S x t T u
 
 pub record ChildFine (S : Classes) (x : Context) (t : TermTree) (T : TypeTree) (n : ℕ) : Type 0 where
   pub c : TermTree

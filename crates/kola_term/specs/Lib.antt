@@ -4,6 +4,7 @@ pub mod Meaning
 pub mod Visits
 pub mod Typing
 pub mod Places
+pub mod Limits
 pub mod Faults
 pub mod Judging
 pub mod Agreement

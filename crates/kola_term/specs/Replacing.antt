@@ -1,51 +1,13 @@
--- A node with another child, as the code makes it: a list of children with one exchanged for a part of the same kind.
-use Rattle.std.specs.Prelude.{◌≡◌, ℕ, suc, ◌==◌, if◌then◌else◌, List, [], ◌∷◌, Option, Some, None, Result, Ok, Err}
-use Rattle.kola_term.specs.Terms.{ConstTree, FunTree, PredTree, TermTree, TermF, TermP, TermC}
-use Rattle.kola_term.specs.Places.{rebuild, sub_at, put_in}
+-- What it says that a part was put at a path of a term.
+use Rattle.std.specs.Prelude.{◌≡◌, ℕ, List, [], ◌∷◌, Option, Some, None, option_and_then, Result, Ok, Err}
+use Rattle.kola_term.specs.Terms.{TermTree}
+use Rattle.kola_term.specs.Places.{nth, with_nth, sub_at, put_in}
 use Rattle.kola_term.specs.Agreement.{SameKind}
 use Rattle.kola_term.specs.PlaceAnswers.{OtherKind}
 use Rattle.kola_term.specs.TermView.{term_tree}
 use Rattle.kola_term.specs.declared.term.Term.{Term}
 use Rattle.kola_term.specs.declared.place.PlaceFault.{PlaceFault}
 use Rattle.kola_term.specs.declared.place.PlaceFault.TheVariants as fault
-
-abbrev pub Changed : Type 0
-Changed = Result (List TermTree) PlaceFault
-
-abbrev pub fun_part : TermTree → Result FunTree PlaceFault
-fun_part (TermF f) = Ok f
-fun_part _ = Err fault.WrongKind
-
-abbrev pub pred_part : TermTree → Result PredTree PlaceFault
-pred_part (TermP p) = Ok p
-pred_part _ = Err fault.WrongKind
-
-abbrev pub const_part : TermTree → Result ConstTree PlaceFault
-const_part (TermC c) = Ok c
-const_part _ = Err fault.WrongKind
-
-abbrev pub before : {A : Type 0} → (A → TermTree) → Result A PlaceFault → List TermTree → Changed
-before v (Ok x) cs = Ok (v x ∷ cs)
-before v (Err e) cs = Err e
-
--- e for c, before the list
-abbrev pub exchanged : TermTree → TermTree → List TermTree → Changed
-exchanged (TermF f) e cs = before TermF (fun_part e) cs
-exchanged (TermP p) e cs = before TermP (pred_part e) cs
-exchanged (TermC c) e cs = before TermC (const_part e) cs
-
-abbrev pub kept : TermTree → Changed → Changed
-kept c (Ok cs) = Ok (c ∷ cs)
-kept c (Err e) = Err e
-
--- the list with e for the entry whose number is n, where the first entry's is k
-abbrev pub changed : ℕ → ℕ → TermTree → List TermTree → Changed
-changed k n e [] = Err fault.NoSuchPath
-changed k n e (c ∷ cs) = if n == k then exchanged c e cs else kept c (changed (suc k) n e cs)
-
-abbrev pub rebuilt : TermTree → Changed → Result (Option TermTree) PlaceFault
-rebuilt t (Ok cs) = Ok (rebuild t cs)
-rebuilt t (Err e) = Err e
 
 -- the code's answer is the definition's, unless memory was wanted
 abbrev pub IsAnswer : {A B : Type 0} → (A → B) → Result A PlaceFault → Result B PlaceFault → Type 0
@@ -60,10 +22,35 @@ pub record PutAt (t : TermTree) (q : List ℕ) (r b : TermTree) : Type 0 where
   pub is : sub_at t q ≡ Some part
   pub kind : SameKind part r
   pub put : put_in t q r ≡ Some b
-  pub whole : SameKind t b
 
-abbrev pub IsPut : TermTree → List ℕ → TermTree → Result Term PlaceFault → Type 0
-IsPut t q r (Ok b) = PutAt t q r (term_tree b)
-IsPut t q r (Err fault.NoSuchPath) = sub_at t q ≡ None
-IsPut t q r (Err fault.WrongKind) = OtherKind (sub_at t q) r
-IsPut t q r (Err fault.Memory) = Unit {0}
+-- why it was refused: no such path, or another kind there; want of memory says nothing
+abbrev pub Refused : Option TermTree → TermTree → PlaceFault → Type 0
+Refused o r fault.NoSuchPath = o ≡ None
+Refused o r fault.WrongKind = OtherKind o r
+Refused o r fault.Memory = Unit {0}
+
+-- b stands where t stood, or it was refused
+abbrev pub IsPut : {A : Type 0} → TermTree → List ℕ → TermTree → TermTree → Result A PlaceFault → Type 0
+IsPut t q r b (Ok x) = PutAt t q r b
+IsPut t q r b (Err e) = Refused (sub_at t q) r e
+
+-- ds is the list cs with r at the path of the entry that has the number
+pub record PutAmong (cs : List TermTree) (n : ℕ) (q : List ℕ) (r : TermTree) (ds : List TermTree) : Type 0 where
+  pub c : TermTree
+  pub e : TermTree
+  pub is : nth n cs ≡ Some c
+  pub put : PutAt c q r e
+  pub others : with_nth n e cs ≡ ds
+
+-- the part at the path of the entry that has the number
+abbrev pub part_among : List TermTree → ℕ → List ℕ → Option TermTree
+part_among cs n q = option_and_then (λ c. sub_at c q) (nth n cs)
+
+abbrev pub IsPutAmong : {A : Type 0} → List TermTree → ℕ → List ℕ → TermTree → List TermTree → Result A PlaceFault → Type 0
+IsPutAmong cs n q r ds (Ok x) = PutAmong cs n q r ds
+IsPutAmong cs n q r ds (Err e) = Refused (part_among cs n q) r e
+
+-- the answer is t with r at the path, or it was refused
+abbrev pub IsReplaced : TermTree → List ℕ → TermTree → Result Term PlaceFault → Type 0
+IsReplaced t q r (Ok b) = PutAt t q r (term_tree b)
+IsReplaced t q r (Err e) = Refused (sub_at t q) r e

@@ -49,3 +49,16 @@ pub fn a_term_is_fine_or_has_one_first_fault()
     ensures one { (S : Classes) (x : Context) (t : TermTree) (T : TypeTree) (q p : List ℕ) (why how : TypeWhy) →
         FaultAt S x t T q why → FaultAt S x t T p how → (q ≡ p) × (why ≡ how) }
 {}
+
+/// Each part of a fine term is fine at its place.
+pub fn parts_of_a_fine_term_are_fine()
+    ensures { (S : Classes) (x : Context) (q : List ℕ) (t l : TermTree) (T u : TypeTree) → Fine S x t T u → sub_at t q ≡ Some l →
+        (w : TypeTree) × (v : TypeTree) × (place S x t T q ≡ Some w) × Fine S x l w v }
+{}
+
+/// A fine part in the place of a part of the same kind and output type keeps a fine term fine, with its output type.
+pub fn fine_parts_keep_a_fine_term()
+    ensures { (S : Classes) (x : Context) (q : List ℕ) (t l r b : TermTree) (T u w v : TypeTree) → Fine S x t T u →
+        sub_at t q ≡ Some l → place S x t T q ≡ Some w → put_in t q r ≡ Some b → Serves S x (Some w) l r →
+        Fine S x r w v → Fine S x b T u }
+{}

@@ -9,12 +9,34 @@ use crate::term::{Fun, Pred};
 use kola_core::Memory;
 use std::alloc::Global;
 
+/// Two values in boxes.
+fn boxes<A: Drop, B: Drop>(alloc: Global, a: A, b: B) -> Result<(Box<A>, Box<B>), Memory>
+    ensures { IfOk result (λ r. (r.0.value ≡ a) × (r.1.value ≡ b)) }
+{
+    let a = Box::new(alloc, a)?;
+    let b = Box::new(alloc, b)?;
+    Ok((a, b))
+}
+
+/// Three values in boxes.
+fn three_boxes<A: Drop, B: Drop, C: Drop>(
+    alloc: Global,
+    a: A,
+    b: B,
+    c: C,
+) -> Result<(Box<A>, Box<B>, Box<C>), Memory>
+    ensures { IfOk result (λ r. (r.0.value ≡ a) × (r.1.value ≡ b) × (r.2.value ≡ c)) }
+{
+    let a = Box::new(alloc, a)?;
+    let (b, c) = boxes(alloc, b, c)?;
+    Ok((a, b, c))
+}
+
 /// `(f o g)`.
 pub fn comp(alloc: Global, f: Fun, g: Fun) -> Result<Fun, Memory>
     ensures { IfOk result (λ r. fun_tree r ≡ FComp (fun_tree f) (fun_tree g)) }
 {
-    let f = Box::new(alloc, f)?;
-    let g = Box::new(alloc, g)?;
+    let (f, g) = boxes(alloc, f, g)?;
     Ok(Fun::Comp(f, g))
 }
 
@@ -22,8 +44,7 @@ pub fn comp(alloc: Global, f: Fun, g: Fun) -> Result<Fun, Memory>
 pub fn pair(alloc: Global, f: Fun, g: Fun) -> Result<Fun, Memory>
     ensures { IfOk result (λ r. fun_tree r ≡ FPair (fun_tree f) (fun_tree g)) }
 {
-    let f = Box::new(alloc, f)?;
-    let g = Box::new(alloc, g)?;
+    let (f, g) = boxes(alloc, f, g)?;
     Ok(Fun::Pair(f, g))
 }
 
@@ -31,8 +52,7 @@ pub fn pair(alloc: Global, f: Fun, g: Fun) -> Result<Fun, Memory>
 pub fn times(alloc: Global, f: Fun, g: Fun) -> Result<Fun, Memory>
     ensures { IfOk result (λ r. fun_tree r ≡ FTimes (fun_tree f) (fun_tree g)) }
 {
-    let f = Box::new(alloc, f)?;
-    let g = Box::new(alloc, g)?;
+    let (f, g) = boxes(alloc, f, g)?;
     Ok(Fun::Times(f, g))
 }
 
@@ -40,8 +60,7 @@ pub fn times(alloc: Global, f: Fun, g: Fun) -> Result<Fun, Memory>
 pub fn nest(alloc: Global, f: Fun, g: Fun) -> Result<Fun, Memory>
     ensures { IfOk result (λ r. fun_tree r ≡ FNest (fun_tree f) (fun_tree g)) }
 {
-    let f = Box::new(alloc, f)?;
-    let g = Box::new(alloc, g)?;
+    let (f, g) = boxes(alloc, f, g)?;
     Ok(Fun::Nest(f, g))
 }
 
@@ -49,8 +68,7 @@ pub fn nest(alloc: Global, f: Fun, g: Fun) -> Result<Fun, Memory>
 pub fn unnest(alloc: Global, f: Fun, g: Fun) -> Result<Fun, Memory>
     ensures { IfOk result (λ r. fun_tree r ≡ FUnnest (fun_tree f) (fun_tree g)) }
 {
-    let f = Box::new(alloc, f)?;
-    let g = Box::new(alloc, g)?;
+    let (f, g) = boxes(alloc, f, g)?;
     Ok(Fun::Unnest(f, g))
 }
 
@@ -58,8 +76,7 @@ pub fn unnest(alloc: Global, f: Fun, g: Fun) -> Result<Fun, Memory>
 pub fn iterate(alloc: Global, p: Pred, f: Fun) -> Result<Fun, Memory>
     ensures { IfOk result (λ r. fun_tree r ≡ FIterate (pred_tree p) (fun_tree f)) }
 {
-    let p = Box::new(alloc, p)?;
-    let f = Box::new(alloc, f)?;
+    let (p, f) = boxes(alloc, p, f)?;
     Ok(Fun::Iterate(p, f))
 }
 
@@ -67,8 +84,7 @@ pub fn iterate(alloc: Global, p: Pred, f: Fun) -> Result<Fun, Memory>
 pub fn iter(alloc: Global, p: Pred, f: Fun) -> Result<Fun, Memory>
     ensures { IfOk result (λ r. fun_tree r ≡ FIter (pred_tree p) (fun_tree f)) }
 {
-    let p = Box::new(alloc, p)?;
-    let f = Box::new(alloc, f)?;
+    let (p, f) = boxes(alloc, p, f)?;
     Ok(Fun::Iter(p, f))
 }
 
@@ -76,8 +92,7 @@ pub fn iter(alloc: Global, p: Pred, f: Fun) -> Result<Fun, Memory>
 pub fn join(alloc: Global, p: Pred, f: Fun) -> Result<Fun, Memory>
     ensures { IfOk result (λ r. fun_tree r ≡ FJoin (pred_tree p) (fun_tree f)) }
 {
-    let p = Box::new(alloc, p)?;
-    let f = Box::new(alloc, f)?;
+    let (p, f) = boxes(alloc, p, f)?;
     Ok(Fun::Join(p, f))
 }
 
@@ -85,9 +100,7 @@ pub fn join(alloc: Global, p: Pred, f: Fun) -> Result<Fun, Memory>
 pub fn choice(alloc: Global, p: Pred, f: Fun, g: Fun) -> Result<Fun, Memory>
     ensures { IfOk result (λ r. fun_tree r ≡ FIf (pred_tree p) (fun_tree f) (fun_tree g)) }
 {
-    let p = Box::new(alloc, p)?;
-    let f = Box::new(alloc, f)?;
-    let g = Box::new(alloc, g)?;
+    let (p, f, g) = three_boxes(alloc, p, f, g)?;
     Ok(Fun::If(p, f, g))
 }
 
@@ -103,8 +116,7 @@ pub fn partial(alloc: Global, f: Fun, c: Const) -> Result<Fun, Memory>
 pub fn at(alloc: Global, p: Pred, f: Fun) -> Result<Pred, Memory>
     ensures { IfOk result (λ r. pred_tree r ≡ PAt (pred_tree p) (fun_tree f)) }
 {
-    let p = Box::new(alloc, p)?;
-    let f = Box::new(alloc, f)?;
+    let (p, f) = boxes(alloc, p, f)?;
     Ok(Pred::At(p, f))
 }
 
@@ -112,8 +124,7 @@ pub fn at(alloc: Global, p: Pred, f: Fun) -> Result<Pred, Memory>
 pub fn and(alloc: Global, p: Pred, q: Pred) -> Result<Pred, Memory>
     ensures { IfOk result (λ r. pred_tree r ≡ PAnd (pred_tree p) (pred_tree q)) }
 {
-    let p = Box::new(alloc, p)?;
-    let q = Box::new(alloc, q)?;
+    let (p, q) = boxes(alloc, p, q)?;
     Ok(Pred::And(p, q))
 }
 
@@ -121,8 +132,7 @@ pub fn and(alloc: Global, p: Pred, q: Pred) -> Result<Pred, Memory>
 pub fn or(alloc: Global, p: Pred, q: Pred) -> Result<Pred, Memory>
     ensures { IfOk result (λ r. pred_tree r ≡ POr (pred_tree p) (pred_tree q)) }
 {
-    let p = Box::new(alloc, p)?;
-    let q = Box::new(alloc, q)?;
+    let (p, q) = boxes(alloc, p, q)?;
     Ok(Pred::Or(p, q))
 }
 

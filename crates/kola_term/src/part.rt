@@ -21,7 +21,7 @@ pub enum SubTerm<'a> {
 
 /// The children of a node, in printed order.
 #[derive(Clone, Copy)]
-enum Children<'a> {
+pub enum Children<'a> {
     Leaf,
     One(SubTerm<'a>),
     Two(SubTerm<'a>, SubTerm<'a>),
@@ -80,7 +80,7 @@ impl<'a> Children<'a> {
 
 impl<'a> SubTerm<'a> {
     /// The children of the part, in printed order; a constant has none.
-    fn children(self) -> Children<'a>
+    pub fn children(self) -> Children<'a>
         ensures { child_trees result ≡ children (sub_tree self.entry) }
     {
         match self {

@@ -4,14 +4,13 @@ ghost use Rattle.std.specs.Prelude.{◌≡◌, ◌↔◌, [], ◌∷◌, IfOk};
 ghost use Rattle.kola_term.specs.Terms.{TermF, TermP, TermC};
 ghost use Rattle.kola_term.specs.TermView.{const_tree, fun_tree, pred_tree, term_tree};
 ghost use Rattle.kola_term.specs.Parts.{sub_tree};
-ghost use Rattle.kola_term.specs.Places.{children, sub_at, put_in};
+ghost use Rattle.kola_term.specs.Places.{sub_at, put_in};
 ghost use Rattle.kola_term.specs.PlaceAnswers.{OtherKind, UnlessMemory};
-ghost use Rattle.kola_term.specs.Replacing.{fun_part, pred_part, const_part, changed, rebuilt, IsAnswer, IsPut};
+ghost use Rattle.kola_term.specs.Replacing.{IsPut, IsPutAmong, IsReplaced};
 
 use crate::constant::Const;
-use crate::make;
 use crate::part::SubTerm;
-use crate::term::{Fun, Pred, Term};
+use crate::term::{Fun, Pred, Term, copied_fun, copied_pred};
 use kola_core::{Memory, Path};
 use std::alloc::Global;
 
@@ -37,333 +36,293 @@ impl From<Memory> for PlaceFault {
     }
 }
 
-/// The function that a term is.
-fn as_fun(part: Term) -> Result<Fun, PlaceFault>
-    ensures { IsAnswer fun_tree result (fun_part (term_tree part)) }
+/// Puts a copy of the new part in the place of a function.
+fn exchange_fun(alloc: Global, f: &mut Box<Fun>, new: SubTerm) -> Result<(), PlaceFault>
+    ensures { IsPut (TermF (fun_tree f.old.value)) [] (sub_tree new.entry) (TermF (fun_tree f.new.value)) result }
 {
-    match part {
-        Term::F(f) => Ok(f),
-        _ => Err(PlaceFault::WrongKind),
+    let SubTerm::F(new) = new else {
+        return Err(PlaceFault::WrongKind);
+    };
+    let copied = copied_fun(alloc, new)?;
+    *f = copied;
+    Ok(())
+}
+
+/// Puts a copy of the new part in the place of a predicate.
+fn exchange_pred(alloc: Global, p: &mut Box<Pred>, new: SubTerm) -> Result<(), PlaceFault>
+    ensures { IsPut (TermP (pred_tree p.old.value)) [] (sub_tree new.entry) (TermP (pred_tree p.new.value)) result }
+{
+    let SubTerm::P(new) = new else {
+        return Err(PlaceFault::WrongKind);
+    };
+    let copied = copied_pred(alloc, new)?;
+    *p = copied;
+    Ok(())
+}
+
+/// Puts a copy of the new part in the place of a constant.
+fn exchange_const(c: &mut Const, new: SubTerm) -> Result<(), PlaceFault>
+    ensures { IsPut (TermC (const_tree c.old)) [] (sub_tree new.entry) (TermC (const_tree c.new)) result }
+{
+    let SubTerm::C(new) = new else {
+        return Err(PlaceFault::WrongKind);
+    };
+    let copied = new.copy()?;
+    *c = copied;
+    Ok(())
+}
+
+/// Puts a copy of the new part at a path in a constant, which has no parts.
+fn put_in_const(c: &mut Const, path: &[u8], new: SubTerm) -> Result<(), PlaceFault>
+    ensures { IsPut (TermC (const_tree c.old)) path.now (sub_tree new.entry) (TermC (const_tree c.new)) result }
+{
+    match path.split_first() {
+        Some(_) => Err(PlaceFault::NoSuchPath),
+        None => exchange_const(c, new),
     }
 }
 
-/// The predicate that a term is.
-fn as_pred(part: Term) -> Result<Pred, PlaceFault>
-    ensures { IsAnswer pred_tree result (pred_part (term_tree part)) }
+/// Puts a copy of the new part at a path in a function.
+#[cycle(put_in)]
+fn put_in_fun(alloc: Global, f: &mut Box<Fun>, path: &[u8], new: SubTerm) -> Result<(), PlaceFault>
+    ensures { IsPut (TermF (fun_tree f.old.value)) path.now (sub_tree new.entry) (TermF (fun_tree f.new.value)) result }
 {
-    match part {
-        Term::P(p) => Ok(p),
-        _ => Err(PlaceFault::WrongKind),
+    match path.split_first() {
+        Some((n, rest)) => put_below_fun(alloc, &mut **f, *n, rest, new),
+        None => exchange_fun(alloc, f, new),
     }
 }
 
-/// The constant that a term is.
-fn as_const(part: Term) -> Result<Const, PlaceFault>
-    ensures { IsAnswer const_tree result (const_part (term_tree part)) }
+/// Puts a copy of the new part at a path in a predicate.
+#[cycle(put_in)]
+fn put_in_pred(
+    alloc: Global,
+    p: &mut Box<Pred>,
+    path: &[u8],
+    new: SubTerm,
+) -> Result<(), PlaceFault>
+    ensures { IsPut (TermP (pred_tree p.old.value)) path.now (sub_tree new.entry) (TermP (pred_tree p.new.value)) result }
 {
-    match part {
-        Term::C(c) => Ok(c),
-        _ => Err(PlaceFault::WrongKind),
+    match path.split_first() {
+        Some((n, rest)) => put_below_pred(alloc, &mut **p, *n, rest, new),
+        None => exchange_pred(alloc, p, new),
     }
 }
 
-/// Two functions, the one with the number exchanged and the other copied.
-fn two_funs(f: &Fun, g: &Fun, n: u8, part: Term) -> Result<(Fun, Fun), PlaceFault>
-    ensures { IsAnswer (λ r. TermF (fun_tree r.0) ∷ TermF (fun_tree r.1) ∷ []) result
-        (changed 1 n (term_tree part) (TermF (fun_tree f.now) ∷ TermF (fun_tree g.now) ∷ [])) }
-{
-    match n {
-        1 => {
-            let f = as_fun(part)?;
-            let g = g.copy()?;
-            Ok((f, g))
-        }
-        2 => {
-            let g = as_fun(part)?;
-            let f = f.copy()?;
-            Ok((f, g))
-        }
-        _ => Err(PlaceFault::NoSuchPath),
-    }
-}
-
-/// A function and a constant, the one with the number exchanged and the other copied.
-fn fun_and_const(f: &Fun, c: &Const, n: u8, part: Term) -> Result<(Fun, Const), PlaceFault>
-    ensures { IsAnswer (λ r. TermF (fun_tree r.0) ∷ TermC (const_tree r.1) ∷ []) result
-        (changed 1 n (term_tree part) (TermF (fun_tree f.now) ∷ TermC (const_tree c.now) ∷ [])) }
-{
-    match n {
-        1 => {
-            let f = as_fun(part)?;
-            let c = c.copy()?;
-            Ok((f, c))
-        }
-        2 => {
-            let c = as_const(part)?;
-            let f = f.copy()?;
-            Ok((f, c))
-        }
-        _ => Err(PlaceFault::NoSuchPath),
-    }
-}
-
-/// A predicate and a function, the one with the number exchanged and the other copied.
-fn pred_and_fun(p: &Pred, f: &Fun, n: u8, part: Term) -> Result<(Pred, Fun), PlaceFault>
-    ensures { IsAnswer (λ r. TermP (pred_tree r.0) ∷ TermF (fun_tree r.1) ∷ []) result
-        (changed 1 n (term_tree part) (TermP (pred_tree p.now) ∷ TermF (fun_tree f.now) ∷ [])) }
-{
-    match n {
-        1 => {
-            let p = as_pred(part)?;
-            let f = f.copy()?;
-            Ok((p, f))
-        }
-        2 => {
-            let f = as_fun(part)?;
-            let p = p.copy()?;
-            Ok((p, f))
-        }
-        _ => Err(PlaceFault::NoSuchPath),
-    }
-}
-
-/// Two predicates, the one with the number exchanged and the other copied.
-fn two_preds(p: &Pred, q: &Pred, n: u8, part: Term) -> Result<(Pred, Pred), PlaceFault>
-    ensures { IsAnswer (λ r. TermP (pred_tree r.0) ∷ TermP (pred_tree r.1) ∷ []) result
-        (changed 1 n (term_tree part) (TermP (pred_tree p.now) ∷ TermP (pred_tree q.now) ∷ [])) }
-{
-    match n {
-        1 => {
-            let p = as_pred(part)?;
-            let q = q.copy()?;
-            Ok((p, q))
-        }
-        2 => {
-            let q = as_pred(part)?;
-            let p = p.copy()?;
-            Ok((p, q))
-        }
-        _ => Err(PlaceFault::NoSuchPath),
-    }
-}
-
-/// A predicate and a constant, the one with the number exchanged and the other copied.
-fn pred_and_const(p: &Pred, c: &Const, n: u8, part: Term) -> Result<(Pred, Const), PlaceFault>
-    ensures { IsAnswer (λ r. TermP (pred_tree r.0) ∷ TermC (const_tree r.1) ∷ []) result
-        (changed 1 n (term_tree part) (TermP (pred_tree p.now) ∷ TermC (const_tree c.now) ∷ [])) }
-{
-    match n {
-        1 => {
-            let p = as_pred(part)?;
-            let c = c.copy()?;
-            Ok((p, c))
-        }
-        2 => {
-            let c = as_const(part)?;
-            let p = p.copy()?;
-            Ok((p, c))
-        }
-        _ => Err(PlaceFault::NoSuchPath),
-    }
-}
-
-/// A predicate with copies of two functions.
-fn with_two_funs(p: Pred, f: &Fun, g: &Fun) -> Result<(Pred, Fun, Fun), Memory>
-    ensures { IfOk result (λ r. (pred_tree r.0 ≡ pred_tree p) × (fun_tree r.1 ≡ fun_tree f.now)
-        × (fun_tree r.2 ≡ fun_tree g.now)) }
-{
-    let f = f.copy()?;
-    let g = g.copy()?;
-    Ok((p, f, g))
-}
-
-/// A function between copies of a predicate and a function.
-fn between(p: &Pred, f: Fun, g: &Fun) -> Result<(Pred, Fun, Fun), Memory>
-    ensures { IfOk result (λ r. (pred_tree r.0 ≡ pred_tree p.now) × (fun_tree r.1 ≡ fun_tree f)
-        × (fun_tree r.2 ≡ fun_tree g.now)) }
-{
-    let p = p.copy()?;
-    let g = g.copy()?;
-    Ok((p, f, g))
-}
-
-/// A function behind copies of a predicate and a function.
-fn behind(p: &Pred, f: &Fun, g: Fun) -> Result<(Pred, Fun, Fun), Memory>
-    ensures { IfOk result (λ r. (pred_tree r.0 ≡ pred_tree p.now) × (fun_tree r.1 ≡ fun_tree f.now)
-        × (fun_tree r.2 ≡ fun_tree g)) }
-{
-    let p = p.copy()?;
-    let f = f.copy()?;
-    Ok((p, f, g))
-}
-
-/// A predicate and two functions, the one with the number exchanged and the others copied.
-fn pred_and_two_funs(
-    p: &Pred,
-    f: &Fun,
-    g: &Fun,
+/// Puts it at a path in the child of a function that has the number.
+#[cycle(put_in)]
+#[tactic(auto, using(crate::proofs::Replaced::among))]
+fn put_below_fun(
+    alloc: Global,
+    f: &mut Fun,
     n: u8,
-    part: Term,
-) -> Result<(Pred, Fun, Fun), PlaceFault>
-    ensures { IsAnswer (λ r. TermP (pred_tree r.0) ∷ TermF (fun_tree r.1) ∷ TermF (fun_tree r.2) ∷ []) result
-        (changed 1 n (term_tree part) (TermP (pred_tree p.now) ∷ TermF (fun_tree f.now) ∷ TermF (fun_tree g.now) ∷ [])) }
-{
-    match n {
-        1 => {
-            let p = as_pred(part)?;
-            Ok(with_two_funs(p, f, g)?)
-        }
-        2 => {
-            let f = as_fun(part)?;
-            Ok(between(p, f, g)?)
-        }
-        3 => {
-            let g = as_fun(part)?;
-            Ok(behind(p, f, g)?)
-        }
-        _ => Err(PlaceFault::NoSuchPath),
-    }
-}
-
-/// The predicate that takes the place of the only child.
-fn only_pred(p: &Pred, n: u8, part: Term) -> Result<Pred, PlaceFault>
-    ensures { IsAnswer (λ r. TermP (pred_tree r) ∷ []) result
-        (changed 1 n (term_tree part) (TermP (pred_tree p.now) ∷ [])) }
-{
-    match n {
-        1 => as_pred(part),
-        _ => Err(PlaceFault::NoSuchPath),
-    }
-}
-
-/// The constant that takes the place of the only child.
-fn only_const(c: &Const, n: u8, part: Term) -> Result<Const, PlaceFault>
-    ensures { IsAnswer (λ r. TermC (const_tree r) ∷ []) result
-        (changed 1 n (term_tree part) (TermC (const_tree c.now) ∷ [])) }
-{
-    match n {
-        1 => as_const(part),
-        _ => Err(PlaceFault::NoSuchPath),
-    }
-}
-
-/// A function with one child exchanged; the other children are copied.
-fn with_fun_child(alloc: Global, f: &Fun, n: u8, part: Term) -> Result<Fun, PlaceFault>
-    ensures { IsAnswer (λ r. Some (TermF (fun_tree r))) result
-        (rebuilt (TermF (fun_tree f.now)) (changed 1 n (term_tree part) (children (TermF (fun_tree f.now))))) }
+    rest: &[u8],
+    new: SubTerm,
+) -> Result<(), PlaceFault>
+    ensures { IsPut (TermF (fun_tree f.old)) (n ∷ rest.now) (sub_tree new.entry) (TermF (fun_tree f.new)) result }
 {
     match f {
-        Fun::Comp(f, g) => {
-            let (f, g) = two_funs(f, g, n, part)?;
-            Ok(make::comp(alloc, f, g)?)
-        }
-        Fun::Pair(f, g) => {
-            let (f, g) = two_funs(f, g, n, part)?;
-            Ok(make::pair(alloc, f, g)?)
-        }
-        Fun::Times(f, g) => {
-            let (f, g) = two_funs(f, g, n, part)?;
-            Ok(make::times(alloc, f, g)?)
-        }
-        Fun::Nest(f, g) => {
-            let (f, g) = two_funs(f, g, n, part)?;
-            Ok(make::nest(alloc, f, g)?)
-        }
-        Fun::Unnest(f, g) => {
-            let (f, g) = two_funs(f, g, n, part)?;
-            Ok(make::unnest(alloc, f, g)?)
-        }
-        Fun::K(c) => {
-            let c = only_const(c, n, part)?;
-            Ok(Fun::K(c))
-        }
-        Fun::C(f, c) => {
-            let (f, c) = fun_and_const(f, c, n, part)?;
-            Ok(make::partial(alloc, f, c)?)
-        }
-        Fun::If(p, f, g) => {
-            let (p, f, g) = pred_and_two_funs(p, f, g, n, part)?;
-            Ok(make::choice(alloc, p, f, g)?)
-        }
-        Fun::Iterate(p, f) => {
-            let (p, f) = pred_and_fun(p, f, n, part)?;
-            Ok(make::iterate(alloc, p, f)?)
-        }
-        Fun::Iter(p, f) => {
-            let (p, f) = pred_and_fun(p, f, n, part)?;
-            Ok(make::iter(alloc, p, f)?)
-        }
-        Fun::Join(p, f) => {
-            let (p, f) = pred_and_fun(p, f, n, part)?;
-            Ok(make::join(alloc, p, f)?)
-        }
-        _ => Err(PlaceFault::NoSuchPath),
+        Fun::Comp(f, g) => return put_in_funs(alloc, f, g, n, rest, new),
+        Fun::Pair(f, g) => return put_in_funs(alloc, f, g, n, rest, new),
+        Fun::Times(f, g) => return put_in_funs(alloc, f, g, n, rest, new),
+        Fun::K(c) => return put_in_only_const(c, n, rest, new),
+        Fun::C(f, c) => return put_in_fun_or_const(alloc, f, c, n, rest, new),
+        Fun::If(p, f, g) => return put_in_choice(alloc, p, f, g, n, rest, new),
+        Fun::Iterate(p, f) => return put_in_pred_or_fun(alloc, p, f, n, rest, new),
+        Fun::Iter(p, f) => return put_in_pred_or_fun(alloc, p, f, n, rest, new),
+        Fun::Join(p, f) => return put_in_pred_or_fun(alloc, p, f, n, rest, new),
+        Fun::Nest(f, g) => return put_in_funs(alloc, f, g, n, rest, new),
+        Fun::Unnest(f, g) => return put_in_funs(alloc, f, g, n, rest, new),
+        _ => return Err(PlaceFault::NoSuchPath),
     }
 }
 
-/// A predicate with one child exchanged; the other children are copied.
-fn with_pred_child(alloc: Global, p: &Pred, n: u8, part: Term) -> Result<Pred, PlaceFault>
-    ensures { IsAnswer (λ r. Some (TermP (pred_tree r))) result
-        (rebuilt (TermP (pred_tree p.now)) (changed 1 n (term_tree part) (children (TermP (pred_tree p.now))))) }
+/// Puts it at a path in the child of a predicate that has the number.
+#[cycle(put_in)]
+#[tactic(auto, using(crate::proofs::Replaced::among))]
+fn put_below_pred(
+    alloc: Global,
+    p: &mut Pred,
+    n: u8,
+    rest: &[u8],
+    new: SubTerm,
+) -> Result<(), PlaceFault>
+    ensures { IsPut (TermP (pred_tree p.old)) (n ∷ rest.now) (sub_tree new.entry) (TermP (pred_tree p.new)) result }
 {
     match p {
-        Pred::At(p, f) => {
-            let (p, f) = pred_and_fun(p, f, n, part)?;
-            Ok(make::at(alloc, p, f)?)
-        }
-        Pred::And(p, q) => {
-            let (p, q) = two_preds(p, q, n, part)?;
-            Ok(make::and(alloc, p, q)?)
-        }
-        Pred::Or(p, q) => {
-            let (p, q) = two_preds(p, q, n, part)?;
-            Ok(make::or(alloc, p, q)?)
-        }
-        Pred::Not(p) => {
-            let p = only_pred(p, n, part)?;
-            Ok(make::not(alloc, p)?)
-        }
-        Pred::Inv(p) => {
-            let p = only_pred(p, n, part)?;
-            Ok(make::inverse(alloc, p)?)
-        }
-        Pred::CP(p, c) => {
-            let (p, c) = pred_and_const(p, c, n, part)?;
-            Ok(make::partial_pred(alloc, p, c)?)
-        }
-        Pred::Ex(p) => {
-            let p = only_pred(p, n, part)?;
-            Ok(make::some(alloc, p)?)
-        }
-        Pred::Fa(p) => {
-            let p = only_pred(p, n, part)?;
-            Ok(make::each(alloc, p)?)
-        }
-        _ => Err(PlaceFault::NoSuchPath),
+        Pred::At(p, f) => return put_in_pred_or_fun(alloc, p, f, n, rest, new),
+        Pred::And(p, q) => return put_in_preds(alloc, p, q, n, rest, new),
+        Pred::Or(p, q) => return put_in_preds(alloc, p, q, n, rest, new),
+        Pred::Not(p) => return put_in_only_pred(alloc, p, n, rest, new),
+        Pred::Inv(p) => return put_in_only_pred(alloc, p, n, rest, new),
+        Pred::CP(p, c) => return put_in_pred_or_const(alloc, p, c, n, rest, new),
+        Pred::Ex(p) => return put_in_only_pred(alloc, p, n, rest, new),
+        Pred::Fa(p) => return put_in_only_pred(alloc, p, n, rest, new),
+        _ => return Err(PlaceFault::NoSuchPath),
     }
 }
 
-/// A part with one child exchanged; the other children are copied.
-fn with_child(alloc: Global, t: SubTerm, n: u8, part: Term) -> Result<Term, PlaceFault>
-    ensures { IsAnswer (λ r. Some (term_tree r)) result
-        (rebuilt (sub_tree t.entry) (changed 1 n (term_tree part) (children (sub_tree t.entry)))) }
+/// Of two functions.
+#[cycle(put_in)]
+#[tactic(auto, using(crate::proofs::Replaced::first, crate::proofs::Replaced::second, crate::proofs::Replaced::not_of_two))]
+fn put_in_funs(
+    alloc: Global,
+    f: &mut Box<Fun>,
+    g: &mut Box<Fun>,
+    n: u8,
+    rest: &[u8],
+    new: SubTerm,
+) -> Result<(), PlaceFault>
+    ensures { IsPutAmong (TermF (fun_tree f.old.value) ∷ TermF (fun_tree g.old.value) ∷ []) n rest.now (sub_tree new.entry)
+        (TermF (fun_tree f.new.value) ∷ TermF (fun_tree g.new.value) ∷ []) result }
 {
-    match t {
-        SubTerm::F(f) => {
-            let f = with_fun_child(alloc, f, n, part)?;
-            Ok(Term::F(f))
-        }
-        SubTerm::P(p) => {
-            let p = with_pred_child(alloc, p, n, part)?;
-            Ok(Term::P(p))
-        }
-        SubTerm::C(_) => Err(PlaceFault::NoSuchPath),
+    match n {
+        1 => return put_in_fun(alloc, f, rest, new),
+        2 => return put_in_fun(alloc, g, rest, new),
+        _ => return Err(PlaceFault::NoSuchPath),
+    }
+}
+
+/// Of a function and a constant.
+#[cycle(put_in)]
+#[tactic(auto, using(crate::proofs::Replaced::first, crate::proofs::Replaced::second, crate::proofs::Replaced::not_of_two))]
+fn put_in_fun_or_const(
+    alloc: Global,
+    f: &mut Box<Fun>,
+    c: &mut Const,
+    n: u8,
+    rest: &[u8],
+    new: SubTerm,
+) -> Result<(), PlaceFault>
+    ensures { IsPutAmong (TermF (fun_tree f.old.value) ∷ TermC (const_tree c.old) ∷ []) n rest.now (sub_tree new.entry)
+        (TermF (fun_tree f.new.value) ∷ TermC (const_tree c.new) ∷ []) result }
+{
+    match n {
+        1 => return put_in_fun(alloc, f, rest, new),
+        2 => return put_in_const(c, rest, new),
+        _ => return Err(PlaceFault::NoSuchPath),
+    }
+}
+
+/// Of a predicate and a function.
+#[cycle(put_in)]
+#[tactic(auto, using(crate::proofs::Replaced::first, crate::proofs::Replaced::second, crate::proofs::Replaced::not_of_two))]
+fn put_in_pred_or_fun(
+    alloc: Global,
+    p: &mut Box<Pred>,
+    f: &mut Box<Fun>,
+    n: u8,
+    rest: &[u8],
+    new: SubTerm,
+) -> Result<(), PlaceFault>
+    ensures { IsPutAmong (TermP (pred_tree p.old.value) ∷ TermF (fun_tree f.old.value) ∷ []) n rest.now (sub_tree new.entry)
+        (TermP (pred_tree p.new.value) ∷ TermF (fun_tree f.new.value) ∷ []) result }
+{
+    match n {
+        1 => return put_in_pred(alloc, p, rest, new),
+        2 => return put_in_fun(alloc, f, rest, new),
+        _ => return Err(PlaceFault::NoSuchPath),
+    }
+}
+
+/// Of a predicate and two functions.
+#[cycle(put_in)]
+#[tactic(auto, using(crate::proofs::Replaced::first, crate::proofs::Replaced::second, crate::proofs::Replaced::third, crate::proofs::Replaced::not_of_three))]
+fn put_in_choice(
+    alloc: Global,
+    p: &mut Box<Pred>,
+    f: &mut Box<Fun>,
+    g: &mut Box<Fun>,
+    n: u8,
+    rest: &[u8],
+    new: SubTerm,
+) -> Result<(), PlaceFault>
+    ensures { IsPutAmong
+        (TermP (pred_tree p.old.value) ∷ TermF (fun_tree f.old.value) ∷ TermF (fun_tree g.old.value) ∷ []) n rest.now (sub_tree new.entry)
+        (TermP (pred_tree p.new.value) ∷ TermF (fun_tree f.new.value) ∷ TermF (fun_tree g.new.value) ∷ []) result }
+{
+    match n {
+        1 => return put_in_pred(alloc, p, rest, new),
+        2 => return put_in_fun(alloc, f, rest, new),
+        3 => return put_in_fun(alloc, g, rest, new),
+        _ => return Err(PlaceFault::NoSuchPath),
+    }
+}
+
+/// Of two predicates.
+#[cycle(put_in)]
+#[tactic(auto, using(crate::proofs::Replaced::first, crate::proofs::Replaced::second, crate::proofs::Replaced::not_of_two))]
+fn put_in_preds(
+    alloc: Global,
+    p: &mut Box<Pred>,
+    q: &mut Box<Pred>,
+    n: u8,
+    rest: &[u8],
+    new: SubTerm,
+) -> Result<(), PlaceFault>
+    ensures { IsPutAmong (TermP (pred_tree p.old.value) ∷ TermP (pred_tree q.old.value) ∷ []) n rest.now (sub_tree new.entry)
+        (TermP (pred_tree p.new.value) ∷ TermP (pred_tree q.new.value) ∷ []) result }
+{
+    match n {
+        1 => return put_in_pred(alloc, p, rest, new),
+        2 => return put_in_pred(alloc, q, rest, new),
+        _ => return Err(PlaceFault::NoSuchPath),
+    }
+}
+
+/// Of a predicate and a constant.
+#[cycle(put_in)]
+#[tactic(auto, using(crate::proofs::Replaced::first, crate::proofs::Replaced::second, crate::proofs::Replaced::not_of_two))]
+fn put_in_pred_or_const(
+    alloc: Global,
+    p: &mut Box<Pred>,
+    c: &mut Const,
+    n: u8,
+    rest: &[u8],
+    new: SubTerm,
+) -> Result<(), PlaceFault>
+    ensures { IsPutAmong (TermP (pred_tree p.old.value) ∷ TermC (const_tree c.old) ∷ []) n rest.now (sub_tree new.entry)
+        (TermP (pred_tree p.new.value) ∷ TermC (const_tree c.new) ∷ []) result }
+{
+    match n {
+        1 => return put_in_pred(alloc, p, rest, new),
+        2 => return put_in_const(c, rest, new),
+        _ => return Err(PlaceFault::NoSuchPath),
+    }
+}
+
+/// Of one predicate.
+#[cycle(put_in)]
+#[tactic(auto, using(crate::proofs::Replaced::first, crate::proofs::Replaced::not_of_one))]
+fn put_in_only_pred(
+    alloc: Global,
+    p: &mut Box<Pred>,
+    n: u8,
+    rest: &[u8],
+    new: SubTerm,
+) -> Result<(), PlaceFault>
+    ensures { IsPutAmong (TermP (pred_tree p.old.value) ∷ []) n rest.now (sub_tree new.entry) (TermP (pred_tree p.new.value) ∷ []) result }
+{
+    match n {
+        1 => return put_in_pred(alloc, p, rest, new),
+        _ => return Err(PlaceFault::NoSuchPath),
+    }
+}
+
+/// Of one constant.
+#[tactic(auto, using(crate::proofs::Replaced::first, crate::proofs::Replaced::not_of_one))]
+fn put_in_only_const(c: &mut Const, n: u8, rest: &[u8], new: SubTerm) -> Result<(), PlaceFault>
+    ensures { IsPutAmong (TermC (const_tree c.old) ∷ []) n rest.now (sub_tree new.entry) (TermC (const_tree c.new) ∷ []) result }
+{
+    match n {
+        1 => return put_in_const(c, rest, new),
+        _ => return Err(PlaceFault::NoSuchPath),
     }
 }
 
 /// A copy of the new part, where it has the kind of the old one.
 fn whole(t: SubTerm, new: SubTerm) -> Result<Term, PlaceFault>
-    ensures { IsPut (sub_tree t.entry) [] (sub_tree new.entry) result }
+    ensures { IsReplaced (sub_tree t.entry) [] (sub_tree new.entry) result }
 {
     match (t, new) {
         (SubTerm::F(_), SubTerm::F(f)) => {
@@ -382,22 +341,41 @@ fn whole(t: SubTerm, new: SubTerm) -> Result<Term, PlaceFault>
     }
 }
 
-/// A part with its own part at a path exchanged.
-fn put_in(alloc: Global, t: SubTerm, path: &[u8], new: SubTerm) -> Result<Term, PlaceFault>
-    ensures { IsPut (sub_tree t.entry) path.now (sub_tree new.entry) result }
+/// A copy of a function with the new part at a path in it.
+fn fun_with(alloc: Global, f: &Fun, n: u8, rest: &[u8], new: SubTerm) -> Result<Term, PlaceFault>
+    ensures { IsReplaced (TermF (fun_tree f.now)) (n ∷ rest.now) (sub_tree new.entry) result }
+{
+    let mut copied = copied_fun(alloc, f)?;
+    put_below_fun(alloc, &mut *copied, n, rest, new)?;
+    Ok(Term::F(Box::into_inner(copied)))
+}
+
+/// A copy of a predicate with the new part at a path in it.
+fn pred_with(alloc: Global, p: &Pred, n: u8, rest: &[u8], new: SubTerm) -> Result<Term, PlaceFault>
+    ensures { IsReplaced (TermP (pred_tree p.now)) (n ∷ rest.now) (sub_tree new.entry) result }
+{
+    let mut copied = copied_pred(alloc, p)?;
+    put_below_pred(alloc, &mut *copied, n, rest, new)?;
+    Ok(Term::P(Box::into_inner(copied)))
+}
+
+/// A copy of a part with the new part at a path in it.
+fn replaced(alloc: Global, t: SubTerm, path: &[u8], new: SubTerm) -> Result<Term, PlaceFault>
+    ensures { IsReplaced (sub_tree t.entry) path.now (sub_tree new.entry) result }
 {
     let Some((n, rest)) = path.split_first() else {
         return whole(t, new);
     };
-    let Some(child) = t.child(*n) else {
-        return Err(PlaceFault::NoSuchPath);
-    };
-    let part = put_in(alloc, child, rest, new)?;
-    with_child(alloc, t, *n, part)
+    match t {
+        SubTerm::F(f) => fun_with(alloc, f, *n, rest, new),
+        SubTerm::P(p) => pred_with(alloc, p, *n, rest, new),
+        SubTerm::C(_) => Err(PlaceFault::NoSuchPath),
+    }
 }
 
 /// A term with its part at a path replaced by a new one of the same kind. `NoSuchPath` comes exactly where the term has no
 /// such path, `WrongKind` exactly where the part there has another kind than the new one, the whole term at the empty path.
+/// It takes time and memory by the number of nodes of both terms, however long the path is.
 pub fn replace_at(alloc: Global, t: &Term, path: &Path, new: &Term) -> Result<Term, PlaceFault>
     ensures replaced { IfOk result (λ b. put_in (term_tree t.now) path.now (term_tree new.now) ≡ Some (term_tree b)) }
     ensures no_such_path { UnlessMemory result ((result ≡ Err PlaceFault.NoSuchPath)
@@ -405,5 +383,5 @@ pub fn replace_at(alloc: Global, t: &Term, path: &Path, new: &Term) -> Result<Te
     ensures wrong_kind { UnlessMemory result ((result ≡ Err PlaceFault.WrongKind)
         ↔ OtherKind (sub_at (term_tree t.now) path.now) (term_tree new.now)) }
 {
-    put_in(alloc, t.as_part(), path.as_slice(), new.as_part())
+    replaced(alloc, t.as_part(), path.as_slice(), new.as_part())
 }

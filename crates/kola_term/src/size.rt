@@ -8,6 +8,9 @@ ghost use Rattle.kola_term.specs.TypingAnswers.{LeftOf};
 
 use kola_values::{Fields, Ty};
 
+/// The most nodes of a type in a term.
+const TYPE_NODES: u32 = 4096;
+
 /// What is left of a limit after the nodes of a type; `None` exactly where the type has more.
 #[cycle(nodes_left)]
 fn nodes_left(t: &Ty, limit: u32) -> Option<u32>
@@ -54,7 +57,7 @@ fn are_within(t: &Ty, u: &Ty, limit: u32) -> bool
 pub(crate) fn is_small(t: &Ty) -> bool
     ensures { result ≡ small (type_tree t.now) }
 {
-    nodes_left(t, 4096).is_some()
+    nodes_left(t, TYPE_NODES).is_some()
 }
 
 /// Whether the type of the sets of a type has at most 4,096 nodes.
@@ -62,7 +65,7 @@ pub(crate) fn is_small(t: &Ty) -> bool
 pub(crate) fn is_small_set(t: &Ty) -> bool
     ensures { result ≡ small (TSet (type_tree t.now)) }
 {
-    nodes_left(t, 4095).is_some()
+    nodes_left(t, TYPE_NODES - 1).is_some()
 }
 
 /// Whether the type of the pairs of two types has at most 4,096 nodes.
@@ -70,7 +73,7 @@ pub(crate) fn is_small_set(t: &Ty) -> bool
 pub(crate) fn is_small_pair(t: &Ty, u: &Ty) -> bool
     ensures { result ≡ small (TPair (type_tree t.now) (type_tree u.now)) }
 {
-    are_within(t, u, 4095)
+    are_within(t, u, TYPE_NODES - 1)
 }
 
 /// The same of the sets of pairs.
@@ -78,7 +81,7 @@ pub(crate) fn is_small_pair(t: &Ty, u: &Ty) -> bool
 pub(crate) fn is_small_set_of_pairs(t: &Ty, u: &Ty) -> bool
     ensures { result ≡ small (TSet (TPair (type_tree t.now) (type_tree u.now))) }
 {
-    are_within(t, u, 4094)
+    are_within(t, u, TYPE_NODES - 2)
 }
 
 /// The same of the sets of pairs of a value with a set.
@@ -86,5 +89,5 @@ pub(crate) fn is_small_set_of_pairs(t: &Ty, u: &Ty) -> bool
 pub(crate) fn is_small_nest(t: &Ty, u: &Ty) -> bool
     ensures { result ≡ small (TSet (TPair (type_tree t.now) (TSet (type_tree u.now)))) }
 {
-    are_within(t, u, 4093)
+    are_within(t, u, TYPE_NODES - 3)
 }

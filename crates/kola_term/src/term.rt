@@ -1,10 +1,11 @@
 //! Functions and predicates of the algebra, and their copies.
 
 ghost use Rattle.std.specs.Prelude.{◌≡◌, IfOk};
-ghost use Rattle.kola_term.specs.TermView.{fun_tree, pred_tree};
+ghost use Rattle.kola_term.specs.TermView.{const_tree, fun_tree, pred_tree};
 
 use crate::constant::Const;
 use kola_core::{Memory, Name};
+use std::alloc::Global;
 
 /// A function: it takes a value to a value (after KOLA's functions).
 #[cycle(term)]
@@ -109,17 +110,47 @@ impl Fun {
             Fun::Isect => Ok(Fun::Isect),
             Fun::Minus => Ok(Fun::Minus),
             Fun::Attr(name) => Ok(Fun::Attr(name.copy()?)),
-            Fun::Comp(f, g) => Ok(Fun::Comp(copy_fun(f)?, copy_fun(g)?)),
-            Fun::Pair(f, g) => Ok(Fun::Pair(copy_fun(f)?, copy_fun(g)?)),
-            Fun::Times(f, g) => Ok(Fun::Times(copy_fun(f)?, copy_fun(g)?)),
+            Fun::Comp(f, g) => {
+                let (f, g) = copy_funs(f, g)?;
+                Ok(Fun::Comp(f, g))
+            }
+            Fun::Pair(f, g) => {
+                let (f, g) = copy_funs(f, g)?;
+                Ok(Fun::Pair(f, g))
+            }
+            Fun::Times(f, g) => {
+                let (f, g) = copy_funs(f, g)?;
+                Ok(Fun::Times(f, g))
+            }
             Fun::K(c) => Ok(Fun::K(c.copy()?)),
-            Fun::C(f, c) => Ok(Fun::C(copy_fun(f)?, c.copy()?)),
-            Fun::If(p, f, g) => Ok(Fun::If(copy_pred(p)?, copy_fun(f)?, copy_fun(g)?)),
-            Fun::Iterate(p, f) => Ok(Fun::Iterate(copy_pred(p)?, copy_fun(f)?)),
-            Fun::Iter(p, f) => Ok(Fun::Iter(copy_pred(p)?, copy_fun(f)?)),
-            Fun::Join(p, f) => Ok(Fun::Join(copy_pred(p)?, copy_fun(f)?)),
-            Fun::Nest(f, g) => Ok(Fun::Nest(copy_fun(f)?, copy_fun(g)?)),
-            Fun::Unnest(f, g) => Ok(Fun::Unnest(copy_fun(f)?, copy_fun(g)?)),
+            Fun::C(f, c) => {
+                let (f, c) = copy_fun_and_const(f, c)?;
+                Ok(Fun::C(f, c))
+            }
+            Fun::If(p, f, g) => {
+                let (p, f, g) = copy_choice(p, f, g)?;
+                Ok(Fun::If(p, f, g))
+            }
+            Fun::Iterate(p, f) => {
+                let (p, f) = copy_pred_and_fun(p, f)?;
+                Ok(Fun::Iterate(p, f))
+            }
+            Fun::Iter(p, f) => {
+                let (p, f) = copy_pred_and_fun(p, f)?;
+                Ok(Fun::Iter(p, f))
+            }
+            Fun::Join(p, f) => {
+                let (p, f) = copy_pred_and_fun(p, f)?;
+                Ok(Fun::Join(p, f))
+            }
+            Fun::Nest(f, g) => {
+                let (f, g) = copy_funs(f, g)?;
+                Ok(Fun::Nest(f, g))
+            }
+            Fun::Unnest(f, g) => {
+                let (f, g) = copy_funs(f, g)?;
+                Ok(Fun::Unnest(f, g))
+            }
             Fun::Meta(name) => Ok(Fun::Meta(name.copy()?)),
         }
     }
@@ -136,13 +167,25 @@ impl Pred {
             Pred::Lt => Ok(Pred::Lt),
             Pred::Le => Ok(Pred::Le),
             Pred::Member => Ok(Pred::Member),
-            Pred::At(p, f) => Ok(Pred::At(copy_pred(p)?, copy_fun(f)?)),
-            Pred::And(p, q) => Ok(Pred::And(copy_pred(p)?, copy_pred(q)?)),
-            Pred::Or(p, q) => Ok(Pred::Or(copy_pred(p)?, copy_pred(q)?)),
+            Pred::At(p, f) => {
+                let (p, f) = copy_pred_and_fun(p, f)?;
+                Ok(Pred::At(p, f))
+            }
+            Pred::And(p, q) => {
+                let (p, q) = copy_preds(p, q)?;
+                Ok(Pred::And(p, q))
+            }
+            Pred::Or(p, q) => {
+                let (p, q) = copy_preds(p, q)?;
+                Ok(Pred::Or(p, q))
+            }
             Pred::Not(p) => Ok(Pred::Not(copy_pred(p)?)),
             Pred::Inv(p) => Ok(Pred::Inv(copy_pred(p)?)),
             Pred::KP(b) => Ok(Pred::KP(*b)),
-            Pred::CP(p, c) => Ok(Pred::CP(copy_pred(p)?, c.copy()?)),
+            Pred::CP(p, c) => {
+                let (p, c) = copy_pred_and_const(p, c)?;
+                Ok(Pred::CP(p, c))
+            }
             Pred::Ex(p) => Ok(Pred::Ex(copy_pred(p)?)),
             Pred::Fa(p) => Ok(Pred::Fa(copy_pred(p)?)),
             Pred::Meta(name) => Ok(Pred::Meta(name.copy()?)),
@@ -165,6 +208,83 @@ fn copy_pred(p: &Box<Pred>) -> Result<Box<Pred>, Memory>
     ensures { IfOk result (λ b. pred_tree b.value ≡ pred_tree p.now.value) }
 {
     let alloc = *Box::allocator(p);
+    let copied = p.copy()?;
+    let boxed = Box::new(alloc, copied)?;
+    Ok(boxed)
+}
+
+#[cycle(copy_term)]
+fn copy_funs(f: &Box<Fun>, g: &Box<Fun>) -> Result<(Box<Fun>, Box<Fun>), Memory>
+    ensures { IfOk result (λ r. (fun_tree r.0.value ≡ fun_tree f.now.value) × (fun_tree r.1.value ≡ fun_tree g.now.value)) }
+{
+    let f = copy_fun(f)?;
+    let g = copy_fun(g)?;
+    Ok((f, g))
+}
+
+#[cycle(copy_term)]
+fn copy_fun_and_const(f: &Box<Fun>, c: &Const) -> Result<(Box<Fun>, Const), Memory>
+    ensures { IfOk result (λ r. (fun_tree r.0.value ≡ fun_tree f.now.value) × (const_tree r.1 ≡ const_tree c.now)) }
+{
+    let f = copy_fun(f)?;
+    let c = c.copy()?;
+    Ok((f, c))
+}
+
+#[cycle(copy_term)]
+fn copy_pred_and_fun(p: &Box<Pred>, f: &Box<Fun>) -> Result<(Box<Pred>, Box<Fun>), Memory>
+    ensures { IfOk result (λ r. (pred_tree r.0.value ≡ pred_tree p.now.value) × (fun_tree r.1.value ≡ fun_tree f.now.value)) }
+{
+    let p = copy_pred(p)?;
+    let f = copy_fun(f)?;
+    Ok((p, f))
+}
+
+#[cycle(copy_term)]
+fn copy_choice(
+    p: &Box<Pred>,
+    f: &Box<Fun>,
+    g: &Box<Fun>,
+) -> Result<(Box<Pred>, Box<Fun>, Box<Fun>), Memory>
+    ensures { IfOk result (λ r. (pred_tree r.0.value ≡ pred_tree p.now.value) × (fun_tree r.1.value ≡ fun_tree f.now.value) × (fun_tree r.2.value ≡ fun_tree g.now.value)) }
+{
+    let p = copy_pred(p)?;
+    let f = copy_fun(f)?;
+    let g = copy_fun(g)?;
+    Ok((p, f, g))
+}
+
+#[cycle(copy_term)]
+fn copy_preds(p: &Box<Pred>, q: &Box<Pred>) -> Result<(Box<Pred>, Box<Pred>), Memory>
+    ensures { IfOk result (λ r. (pred_tree r.0.value ≡ pred_tree p.now.value) × (pred_tree r.1.value ≡ pred_tree q.now.value)) }
+{
+    let p = copy_pred(p)?;
+    let q = copy_pred(q)?;
+    Ok((p, q))
+}
+
+#[cycle(copy_term)]
+fn copy_pred_and_const(p: &Box<Pred>, c: &Const) -> Result<(Box<Pred>, Const), Memory>
+    ensures { IfOk result (λ r. (pred_tree r.0.value ≡ pred_tree p.now.value) × (const_tree r.1 ≡ const_tree c.now)) }
+{
+    let p = copy_pred(p)?;
+    let c = c.copy()?;
+    Ok((p, c))
+}
+
+/// A copy of a function in a box.
+pub(crate) fn copied_fun(alloc: Global, f: &Fun) -> Result<Box<Fun>, Memory>
+    ensures { IfOk result (λ b. fun_tree b.value ≡ fun_tree f.now) }
+{
+    let copied = f.copy()?;
+    let boxed = Box::new(alloc, copied)?;
+    Ok(boxed)
+}
+
+/// A copy of a predicate in a box.
+pub(crate) fn copied_pred(alloc: Global, p: &Pred) -> Result<Box<Pred>, Memory>
+    ensures { IfOk result (λ b. pred_tree b.value ≡ pred_tree p.now) }
+{
     let copied = p.copy()?;
     let boxed = Box::new(alloc, copied)?;
     Ok(boxed)

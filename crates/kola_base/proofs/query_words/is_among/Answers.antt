@@ -2,8 +2,8 @@ use Rattle.std.proofs.Common.{eqb, rules, tests}
 use Rattle.std.specs.Str.{str_eq_ignore_ascii_case}
 use Rattle.std.proofs.lemmas.Iterator.Search.{any_from_yields_List}
 use Rattle.std.proofs.lemmas.Iterator.Splits.{YieldsList-from_slice_split}
-use Rattle.kola_load.specs.Names.{is_among}
-use Rattle.kola_load.proofs.schema_names.is_among.Goals as goal
+use Rattle.kola_base.specs.QueryWords.{is_among}
+use Rattle.kola_base.proofs.query_words.is_among.Goals as goal
 
 pub returns : goal.returns
 unfolding is_among

@@ -2,6 +2,7 @@ pub mod MemberNames
 pub mod JsonParts
 pub mod ClassPlaces
 pub mod IdTables
+pub mod Taken
 pub mod SeenKeys
 pub mod ValueLoops
 pub mod KeyPlaces

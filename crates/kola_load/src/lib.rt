@@ -29,8 +29,3 @@ pub use fault::DbFault;
 pub use schema_fault::{SchemaFault, SchemaWhy};
 pub use schema_laws::a_text_is_one_schema_or_has_one_fault;
 pub use schema_read::read_schema;
-
-#[cfg(test)]
-mod db_samples;
-#[cfg(test)]
-mod db_tests;

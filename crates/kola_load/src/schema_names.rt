@@ -2,7 +2,7 @@
 
 ghost use Rattle.std.specs.Prelude.{◌≡◌, [], map, IfOk};
 ghost use Rattle.kola_load.specs.Names.{is_extent_name};
-ghost use Rattle.kola_load.specs.SchemaFaults.{starts_with_capital, rank};
+ghost use Rattle.kola_load.specs.SchemaFaults.{starts_with_capital, rank, class_names, extents};
 ghost use Rattle.kola_load.specs.FirstMarks.{goes_before, earlier, unless, first_of, not_allowed, names_from, twice, unknown_class, unknown_key, unknown_keys, unknown_types, first_in_class, first_mark};
 ghost use Rattle.kola_load.specs.SchemaViews.{named_view, type_view, key_view, attribute_view, class_view};
 
@@ -199,14 +199,34 @@ fn first_in_classes(
     Ok(first)
 }
 
+/// The first name of a class that a class has before, and the first fault inside of a class.
+fn first_of_classes(
+    alloc: Global,
+    classes: &[ClassAt<'_>],
+) -> Result<(Option<Mark>, Option<Mark>), Memory>
+    ensures twice { IfOk result (λ r. r.0 ≡ twice (class_names (map class_view classes.now))) }
+    ensures inside { IfOk result (λ r. r.1 ≡ first_of (first_in_class (names_from [] (class_names (map class_view classes.now)))) (map class_view classes.now)) }
+{
+    let names = class_names(alloc, classes)?;
+    let (known, twice) = table_of(alloc, names.as_slice())?;
+    let inside = first_in_classes(alloc, &known, classes)?;
+    Ok((twice, inside))
+}
+
+/// The first extent that is named as one before.
+fn first_extent_twice(alloc: Global, classes: &[ClassAt<'_>]) -> Result<Option<Mark>, Memory>
+    ensures { IfOk result (λ m. m ≡ twice (extents (map class_view classes.now))) }
+{
+    let extents = extents(alloc, classes)?;
+    let (_, twice) = table_of(alloc, extents.as_slice())?;
+    Ok(twice)
+}
+
 /// The first fault of the names of the classes, and `None` where they have none.
 pub fn first_mark(alloc: Global, classes: &[ClassAt<'_>]) -> Result<Option<Mark>, Memory>
     ensures { IfOk result (λ m. m ≡ first_mark (map class_view classes.now)) }
 {
-    let names = class_names(alloc, classes)?;
-    let (known, twice) = table_of(alloc, names.as_slice())?;
-    let extents = extents(alloc, classes)?;
-    let (_, extent_twice) = table_of(alloc, extents.as_slice())?;
-    let inside = first_in_classes(alloc, &known, classes)?;
+    let (twice, inside) = first_of_classes(alloc, classes)?;
+    let extent_twice = first_extent_twice(alloc, classes)?;
     Ok(earlier(twice, earlier(extent_twice, inside)))
 }

@@ -23,3 +23,4 @@ pub mod FirstMarkLaws
 pub mod MarkLoops
 pub mod PlainLaws
 pub mod OneSchema
+mod SchemaFaultExamples

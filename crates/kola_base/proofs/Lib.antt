@@ -20,3 +20,4 @@ pub mod SpelledLaws
 pub mod SymbolLaws
 pub mod TermWordLaws
 pub mod NamedLaws
+mod TextExamples

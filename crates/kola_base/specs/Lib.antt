@@ -17,3 +17,4 @@ pub mod AlphabetViews
 pub mod Spelled
 pub mod Named
 pub mod NamedViews
+pub mod QueryWords

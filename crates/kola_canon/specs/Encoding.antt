@@ -1,9 +1,7 @@
 -- The encoding of structs as pairs nested to the right, of values and of types, and its inverse by a type.
-use Rattle.std.specs.Prelude.{◌≡◌, map}
-use Rattle.kola_values.specs.Values.{ValueTree, VUnit, VInt, VBool, VStr, VObj, VPair, VStruct, VSet, MemberValues, VNone, VMore, FieldValues, VEnd, VField, items, of_items}
-use Rattle.kola_values.specs.Types.{TypeTree, TInt, TStr, TBool, TUnit, TClass, TSet, TPair, TStruct, FieldTypes, TEnd, TField}
-use Rattle.kola_values.specs.Sets.{Rising, Each}
-use Rattle.kola_core.specs.Integers.{In64}
+use Rattle.std.specs.Prelude.{map}
+use Rattle.kola_values.specs.Values.{ValueTree, VUnit, VPair, VStruct, VSet, MemberValues, VNone, VMore, FieldValues, VEnd, VField, items, of_items}
+use Rattle.kola_values.specs.Types.{TypeTree, TUnit, TSet, TPair, TStruct, FieldTypes, TEnd, TField}
 
 -- the first value alone where no field follows it, and paired with the rest otherwise
 abbrev pub joined : ValueTree → FieldValues → ValueTree → ValueTree

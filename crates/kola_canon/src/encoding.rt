@@ -144,8 +144,8 @@ fn decoded(alloc: Global, v: &Value, t: &Ty) -> Result<Value, Memory>
 #[cycle(decoded)]
 fn decoded_fields(alloc: Global, v: &Value, types: &[(Name, Ty)]) -> Result<ValueFields, Memory>
     requires { WellFormedFields (dec_fields (of_type_fields (map type_entry types.now)) (value_tree v.now)) }
-    ensures { IfOk result
-        (λ fs. of_fields fs ≡ dec_fields (of_type_fields (map type_entry types.now)) (value_tree v.now)) }
+    ensures { IfOk result (λ fs. of_fields fs
+        ≡ dec_fields (of_type_fields (map type_entry types.now)) (value_tree v.now)) }
 {
     let mut fields = ValueFields::new(alloc);
     let mut rest = v;

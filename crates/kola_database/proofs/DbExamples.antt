@@ -4,7 +4,7 @@ use Rattle.kola_values.specs.Values.{VUnit, VInt, VStr, VObj}
 use Rattle.kola_values.specs.Order.{same}
 use Rattle.kola_values.specs.Sets.{any, has}
 use Rattle.kola_values.specs.Databases.{Object, Objects, objects_of, attribute_of}
-use Rattle.kola_database.specs.Stored.{Database, extents_of, extent_in, attribute_in}
+use Rattle.kola_database.specs.Stored.{Database, extents_of, attributes_of, extent_in, extent_at, attribute_in, attribute_at}
 use Rattle.kola_schema.proofs.SchemaExamples.{sample}
 
 abbrev person : ℕ → List ℕ → Object
@@ -17,7 +17,7 @@ abbrev objects : Objects
 objects = person 2 (codes "Bo") ∷ vehicle ∷ person 1 (codes "Al") ∷ []
 
 abbrev db : Database
-db = record { objects = objects; extents = extents_of sample }
+db = record { objects = objects; extents = extents_of sample; attributes = attributes_of sample }
 
 -- an extent is in the order of its values
 persons : extent_in db (codes "Persons") ≡ Some (VObj (codes "Person") 1 ∷ VObj (codes "Person") 2 ∷ [])
@@ -51,3 +51,28 @@ object_of_the_class = refl
 object_of_another_class : has (VObj (codes "Vehicle") 2) (objects_of (codes "Vehicle") objects) ≡ false
 unfolding same any
 object_of_another_class = refl
+
+-- ---- by numbers
+
+persons_by_number : extent_at db 0 ≡ Some (VObj (codes "Person") 1 ∷ VObj (codes "Person") 2 ∷ [])
+unfolding same any
+persons_by_number = refl
+
+extent_of_no_class : extent_at db 2 ≡ None
+extent_of_no_class = refl
+
+-- an object that lists its values in another order than its class
+last_by_number : attribute_at db 0 2 2 ≡ Some (VStr (codes "Ito"))
+unfolding same
+last_by_number = refl
+
+year_by_number : attribute_at db 1 1 0 ≡ Some (VInt (pos 1998))
+unfolding same
+year_by_number = refl
+
+attribute_past_the_last : attribute_at db 1 1 1 ≡ None
+attribute_past_the_last = refl
+
+id_of_no_object : attribute_at db 1 2 0 ≡ None
+unfolding same
+id_of_no_object = refl

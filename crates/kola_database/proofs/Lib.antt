@@ -8,5 +8,6 @@ pub mod KeyLoops
 pub mod Reordered
 pub mod Stored
 pub mod Runs
+pub mod Numbered
 mod MeetExamples
 mod DbExamples

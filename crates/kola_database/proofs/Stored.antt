@@ -11,12 +11,12 @@ use Rattle.kola_values.specs.Values.{ValueTree, VObj}
 use Rattle.kola_values.specs.Order.{cmp, same}
 use Rattle.kola_values.specs.Sets.{Rising, Each, any, has, canon}
 use Rattle.kola_values.specs.Databases.{Object, Classes, Objects, look_up, value_or_unit, extent_class, objects_of, attribute_of}
-use Rattle.kola_schema.specs.Meets.{NoneTwice, object_values}
-use Rattle.kola_database.specs.Stored.{extents_of, object_named, attribute_in}
-use Rattle.kola_schema.specs.Schemas.{extent_names}
+use Rattle.kola_schema.specs.Meets.{NoneTwice, object_values, FitsClass}
+use Rattle.kola_database.specs.Stored.{extents_of, attributes_of, object_named, attribute_in}
+use Rattle.kola_schema.specs.Schemas.{extent_names, are_distinct, names_of}
 use Rattle.kola_values.specs.Views.{value_tree, value_entry}
 use Rattle.kola_database.specs.ObjectViews.{object_tree}
-use Rattle.kola_database.specs.ExtentViews.{extent_entry, filled}
+use Rattle.kola_database.specs.ExtentViews.{extent_entry, extent_labels, filled}
 use Rattle.kola_values.specs.declared.value.Value.{Value}
 use Rattle.kola_database.specs.declared.object.ObjectDef.{ObjectDef}
 use Rattle.kola_database.specs.declared.db.Extent.{Extent}
@@ -173,6 +173,15 @@ filled_names (k ∷ ks) d = ap (λ l. k.extent ∷ l) (filled_names ks d)
 pub filled_entries : (S : Classes) (d : Objects) → map extent_entry (filled S d) ≡ extents_of S
 filled_entries [] d = refl
 filled_entries (k ∷ ks) d = ap (λ l. (k.extent, k.name) ∷ l) (filled_entries ks d)
+
+pub filled_labels : (S : Classes) (d : Objects) → map extent_labels (filled S d) ≡ attributes_of S
+filled_labels [] d = refl
+filled_labels (k ∷ ks) d = ap (λ l. names_of k.attributes ∷ l) (filled_labels ks d)
+
+-- an object that fits its class has each attribute once
+pub each_once : (S : Classes) (d os : Objects) → Each (FitsClass S d) os → Each (λ (o : Object). are_distinct (names_of o.values) ≡ true) os
+each_once S d [] h = tt
+each_once S d (o ∷ os) h = (h.0.once, each_once S d os h.1)
 
 members_found : (xs : List Extent) (d : Objects) (n : List ℕ) → Each (λ (x : Extent). x.members ≡ canon (objects_of x.class d)) xs
     → option_map (λ (x : Extent). x.members) (find (λ (x : Extent). bytes_eq n x.name) xs) ≡ option_map (λ c. canon (objects_of c d)) (look_up n (map extent_entry xs))

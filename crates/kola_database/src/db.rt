@@ -1,21 +1,21 @@
 //! Databases: objects that meet a schema, with each extent as a set.
-ghost use Rattle.std.specs.Prelude.{◌≡◌, true, map, slice_get, IfOk, IsPermutation};
+ghost use Rattle.std.specs.Prelude.{◌≡◌, true, map, slice_get, IfOk, OnSome, IsPermutation};
 ghost use Rattle.std.specs.Option.{option_map, option_copied};
 ghost use Rattle.kola_values.specs.Values.{VObj};
 ghost use Rattle.kola_values.specs.Order.{cmp};
 ghost use Rattle.kola_values.specs.Sets.{Rising, has};
-ghost use Rattle.kola_values.specs.Databases.{objects_of};
+ghost use Rattle.kola_values.specs.Databases.{objects_of, look_up};
 ghost use Rattle.kola_schema.specs.Meets.{Meets, object_values};
-ghost use Rattle.kola_schema.specs.Schemas.{are_distinct};
-ghost use Rattle.kola_database.specs.Stored.{IsUnder, extent_in, object_named, attribute_in};
+ghost use Rattle.kola_schema.specs.Schemas.{are_distinct, names_of};
+ghost use Rattle.kola_database.specs.Stored.{IsUnder, extent_in, extent_at, object_named, attribute_in, attribute_at};
 ghost use Rattle.kola_values.specs.Views.{value_at};
 ghost use Rattle.kola_database.specs.ObjectViews.{object_tree, object_at};
 ghost use Rattle.kola_database.specs.ExtentViews.{filled};
 
 use crate::ObjectDef;
-use kola_core::{Memory, Name, NameTable};
+use kola_core::{Items, Memory, Name, NameTable, Names};
 use kola_schema::{Schema, entry_named};
-use kola_values::{Set, Value};
+use kola_values::{Set, Ty, Value};
 use std::alloc::Global;
 use std::cmp::Ordering;
 use std::marker::Model;
@@ -33,11 +33,12 @@ pub(crate) fn cmp_objects(a: &ObjectDef, b: &ObjectDef) -> Ordering
     cmp_object(a, &b.class, b.id)
 }
 
-/// The extent of a class: its name, the class, and the objects of the class as a set.
+/// The extent of a class: its name, the class with its attributes in their order, and the objects of the class as a set.
 #[derive(Drop)]
 pub struct Extent {
     name: Name,
     class: Name,
+    attributes: Names,
     members: Set,
 }
 
@@ -65,6 +66,31 @@ fn members_of(alloc: Global, class: &Name, objects: &[ObjectDef]) -> Result<Set,
     Set::from_rising(members)
 }
 
+// Where the objects of a class begin.
+fn start_of(objects: &[ObjectDef], class: &Name) -> usize {
+    objects.partition_point(|object| object.class.cmp_bytes(class).is_lt())
+}
+
+// Where the objects of each class begin, in the order of the schema.
+fn starts_of(alloc: Global, schema: &Schema, objects: &[ObjectDef]) -> Result<Vec<usize>, Memory> {
+    let mut starts = Vec::new(alloc);
+    for class in schema.classes() {
+        starts.push(start_of(objects, &class.get().name))?;
+    }
+    Ok(starts)
+}
+
+// The names of attributes, in their order.
+fn labels_of(alloc: Global, entries: &[(Name, Ty)]) -> Result<Names, Memory>
+    ensures { IfOk result (λ ns. ns ≡ names_of entries.now) }
+{
+    let mut names = Items::new(alloc);
+    for entry in entries {
+        names.push(entry.0.copy()?)?;
+    }
+    Ok(names)
+}
+
 // The extents of the classes of a schema, in their order.
 fn extents_of(alloc: Global, schema: &Schema, objects: &[ObjectDef]) -> Result<Vec<Extent>, Memory>
     requires { Rising (object_values (map object_tree objects.now)) }
@@ -77,6 +103,7 @@ fn extents_of(alloc: Global, schema: &Schema, objects: &[ObjectDef]) -> Result<V
         extents.push(Extent {
             name: class.extent.copy()?,
             class: class.name.copy()?,
+            attributes: labels_of(alloc, class.attributes.as_slice())?,
             members,
         })?;
     }
@@ -93,6 +120,12 @@ fn table_of(alloc: Global, extents: &[Extent]) -> Result<NameTable, Memory>
         names.add(extent.name.as_text())?;
     }
     Ok(names)
+}
+
+fn extent_numbered(extents: &[Extent], n: usize) -> Option<&Extent>
+    ensures { option_copied result ≡ slice_get extents.now n }
+{
+    extents.get(n)
 }
 
 fn members_at(extents: &[Extent], n: usize) -> Option<&Set>
@@ -112,12 +145,68 @@ fn object_in<'a>(objects: &'a [ObjectDef], class: &Name, id: u32) -> Option<&'a 
     }
 }
 
-/// A database: objects that meet a schema. Contracts see it as its objects and the names of its extents with their classes. It keeps its
-/// objects in the order of their values, and each extent as a set.
+// The object that stands at a place, if it is the one of the class and the id.
+fn object_there<'a>(
+    objects: &'a [ObjectDef],
+    place: usize,
+    class: &Name,
+    id: u32,
+) -> Option<&'a ObjectDef>
+    requires { Rising (object_values (map object_tree objects.now)) }
+    ensures { OnSome result (option_map object_at result ≡ object_named class.now id (map object_tree objects.now)) }
+{
+    if place >= objects.len() {
+        return None;
+    }
+    let object = &objects[place];
+    if cmp_object(object, class, id).is_eq() {
+        Some(object)
+    } else {
+        None
+    }
+}
+
+// The object of a class and an id, where the objects of the class begin at a place. Where ids are dense it stands as far behind as its id
+// is above 1, and is looked for by halves where it does not.
+fn object_from<'a>(
+    objects: &'a [ObjectDef],
+    start: usize,
+    class: &Name,
+    id: u32,
+) -> Option<&'a ObjectDef>
+    requires { Rising (object_values (map object_tree objects.now)) }
+    ensures { option_map object_at result ≡ object_named class.now id (map object_tree objects.now) }
+{
+    let place = start.saturating_add(id as usize).saturating_sub(1);
+    match object_there(objects, place, class, id) {
+        Some(object) => Some(object),
+        None => object_in(objects, class, id),
+    }
+}
+
+// The value of an attribute of an object. It stands at the attribute's number where the object lists its values in the class's order, and
+// is looked for by its name where the object does not.
+fn value_from<'a>(object: &'a ObjectDef, place: usize, a: &Name) -> Option<&'a Value>
+    requires { are_distinct (names_of object.now.values) ≡ true }
+    ensures { option_map value_at result ≡ look_up a.now object.now.values }
+{
+    if let Some(entry) = object.values.get(place) {
+        if a.is(&entry.0) {
+            return Some(&entry.1);
+        }
+    }
+    let entry = entry_named(object.values.as_slice(), a)?;
+    Some(&entry.1)
+}
+
+/// A database: objects that meet a schema. Contracts see it as its objects, the names of its extents with their classes, and the names of
+/// the attributes of each class. It keeps its objects in the order of their values, so that those of a class stand together by rising ids,
+/// and each extent as a set.
 #[derive(Drop)]
 pub struct Db {
     objects: Vec<ObjectDef>,
     extents: Vec<Extent>,
+    starts: Vec<usize>,
     names: NameTable,
 }
 
@@ -132,9 +221,13 @@ impl Model for Db {
 
     ghost use Rattle.std.specs.Prelude.{map};
     ghost use Rattle.kola_database.specs.ObjectViews.{object_tree};
-    ghost use Rattle.kola_database.specs.ExtentViews.{extent_entry, IsStored};
+    ghost use Rattle.kola_database.specs.ExtentViews.{extent_entry, extent_labels, IsStored};
 
-    ghost view = { λ a. record { objects = map object_tree a.objects.items; extents = map extent_entry a.extents.items } };
+    ghost view = { λ a. record {
+      objects = map object_tree a.objects.items;
+      extents = map extent_entry a.extents.items;
+      attributes = map extent_labels a.extents.items;
+    } };
 
     ghost invariant = { λ a. IsStored (map object_tree a.objects.items) a.extents.items a.names };
 }
@@ -152,12 +245,38 @@ impl Db {
         let mut objects = objects;
         objects.sort_unstable_by(|a, b| cmp_objects(a, b));
         let extents = extents_of(alloc, schema, objects.as_slice())?;
+        let starts = starts_of(alloc, schema, objects.as_slice())?;
         let names = table_of(alloc, extents.as_slice())?;
         Ok(Db {
             objects,
             extents,
+            starts,
             names,
         })
+    }
+
+    /// The extent of the class of a number, as the set of its objects; `None` exactly where the number is past the last class. It is lent,
+    /// in constant time.
+    pub fn extent_at(&self, class: usize) -> Option<&Set>
+        ensures { option_copied result ≡ extent_at self.now class }
+    {
+        members_at(&self.extents, class)
+    }
+
+    /// The value of the attribute of a number of the object with the id of the class of a number: the same as `attribute` finds by their
+    /// names. It takes constant time where the ids of the class are dense, 1, 2 and so on, and the object lists its values in the class's
+    /// order; else it searches the objects by halves, or walks the attributes of one.
+    pub fn attribute_at(&self, class: usize, id: u32, a: usize) -> Option<&Value>
+        ensures { option_map value_at result ≡ attribute_at self.now class id a }
+    {
+        let extent = extent_numbered(&self.extents, class)?;
+        let name = extent.attributes.get(a)?;
+        let start = match self.starts.get(class) {
+            Some(start) => *start,
+            None => 0,
+        };
+        let object = object_from(&self.objects, start, &extent.class, id)?;
+        value_from(object, a, name)
     }
 
     /// The extent of the name, as the set of the objects of its class; `None` exactly where the database has no such extent. It takes

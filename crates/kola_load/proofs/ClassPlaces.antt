@@ -4,7 +4,7 @@ use Rattle.std.specs.Str.{bytes_eq}
 use Rattle.std.proofs.lemmas.List.{take-map, take-append-drop, drop_more}
 use Rattle.kola_values.specs.Databases.{Class, Classes}
 use Rattle.kola_core.specs.NameLists.{is_listed}
-use Rattle.kola_schema.specs.Schemas.{are_distinct, class_names, class_named}
+use Rattle.kola_schema.specs.Schemas.{are_distinct, class_names, extent_names, class_named}
 use Rattle.kola_values.proofs.Truth.{both_false}
 use Rattle.kola_schema.proofs.Places.{fresh}
 use Rattle.kola_values.proofs.SameTypes.{name_itself}
@@ -24,3 +24,7 @@ module _ (S : Classes) (i : ℕ) (k : Class) (p : i < length S) (e : k ≡ get_o
   class_found =
       ap (λ T. class_named T k.name) (sym (take-append-drop i S) ∙ ap (λ l. take i S ++ l) (drop_more S i k p ∙ ap (λ c. c ∷ drop (i + 1) S) (sym e)))
       ∙ class_after (take i S) (drop (i + 1) S) k new_name
+
+-- no class before it has the extent
+pub new_extent : (S : Classes) (i : ℕ) (k : Class) → i < length S → k ≡ get_or S i k → are_distinct (extent_names S) ≡ true → is_listed k.extent (extent_names (take i S)) ≡ false
+new_extent S i k p e d = ap (is_listed k.extent) (sym (take-map (λ (c : Class). c.extent) i S)) ∙ fresh (λ (c : Class). c.extent) S i k p e d

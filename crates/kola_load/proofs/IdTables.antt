@@ -34,7 +34,7 @@ updated m n k ids u class e r =
 
 -- ---- one more class
 
-bytes_comm : (m n : List ℕ) → bytes_eq m n ≡ bytes_eq n m
+pub bytes_comm : (m n : List ℕ) → bytes_eq m n ≡ bytes_eq n m
 bytes_comm m n = bool_same (bytes_eq m n) (bytes_eq n m) (λ h. ap (bytes_eq n) (name_equal m n h) ∙ name_itself n) (λ h. ap (bytes_eq m) (name_equal n m h) ∙ name_itself m)
 
 module _ (j : Data) (k : Class) (r : List ℕ × ℕ) where

@@ -2,27 +2,16 @@
 use Rattle.std.proofs.Common.{◌≡◌, ℕ, zero, suc, ◌<◌, List, [], ◌∷◌, length, get_or, map, position, refl, sym, ap, subst, ◌∙◌, arith}
 use Rattle.std.specs.Str.{bytes_eq}
 use Rattle.serde_json.specs.Data.{Data}
-use Rattle.kola_core.specs.declared.name.Name.{Name}
 use Rattle.kola_values.specs.Types.{TypeTree}
 use Rattle.kola_values.specs.Databases.{Class, Object, Classes, Objects, value_or_unit}
 use Rattle.kola_database.specs.KeyedObjects.{value_at_name}
 use Rattle.kola_schema.specs.Schemas.{names_of}
 use Rattle.kola_values.specs.Sets.{Each}
-use Rattle.kola_values.specs.Views.{type_entry}
-use Rattle.kola_values.specs.declared.ty.Ty.{Ty}
-use Rattle.kola_core.proofs.NameLists.{place_seen}
 use Rattle.kola_schema.proofs.Places.{entry_at_place}
 use Rattle.kola_load.specs.KeyViews.{value_at_place, AreOfClass, AreOfClasses}
 use Rattle.kola_load.specs.Written.{attribute_in, object_in, objects_in, extent_of}
 
 -- ---- names and places
-
-names_seen : (es : List (Name × Ty)) → map (λ (e : Name × Ty). e.0) es ≡ names_of (map type_entry es)
-names_seen [] = refl
-names_seen (e ∷ es) = ap (λ l. e.0 ∷ l) (names_seen es)
-
-pub place_named : (a : List ℕ) (es : List (Name × Ty)) (us : List (List ℕ × TypeTree)) → map type_entry es ≡ us → position (λ (e : Name × Ty). bytes_eq a e.0) es ≡ position (bytes_eq a) (names_of us)
-place_named a es us e = sym (place_seen (λ (e : Name × Ty). e.0) a es) ∙ ap (position (bytes_eq a)) (names_seen es ∙ ap (λ l. names_of l) e)
 
 -- what an object says at the places of a key
 pub said_at_places : (k : Class) (o : Object) → names_of o.values ≡ names_of k.attributes → (key : List (List ℕ)) → map (value_at_place o.values) (map (λ a. position (bytes_eq a) (names_of k.attributes)) key) ≡ map (λ a. value_at_name o a) key

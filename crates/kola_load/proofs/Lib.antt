@@ -2,6 +2,7 @@ pub mod MemberNames
 pub mod JsonParts
 pub mod ClassPlaces
 pub mod IdTables
+pub mod Taken
 pub mod SeenKeys
 pub mod ValueLoops
 pub mod KeyPlaces
@@ -22,3 +23,4 @@ pub mod FirstMarkLaws
 pub mod MarkLoops
 pub mod PlainLaws
 pub mod OneSchema
+mod SchemaFaultExamples

@@ -13,10 +13,6 @@ use Rattle.std.specs.declared.alloc.Global.{Global}
 use Rattle.serde_json.specs.View.{members_view}
 use Rattle.serde_json.specs.declared.value.Value.{Value}
 use Rattle.kola_values.specs.Order.{name_cmp}
-use Rattle.kola_values.specs.Databases.{Class, Classes, look_up, attribute_type, extent_class}
-use Rattle.kola_core.specs.NameLists.{is_listed}
-use Rattle.kola_schema.specs.Schemas.{names_of, class_named, extent_names}
-use Rattle.kola_schema.proofs.Schemas.{attribute_of_class}
 use Rattle.kola_load.specs.Json.{names_of_members, lesser, least}
 
 -- ---- the least of a list that rises
@@ -85,30 +81,3 @@ module _ (q : List ℕ → Bool) (all : List (String Global × Value)) where
 
   pub left_none : (rest : List (String Global × Value)) → rest ≡ [] → Left q all rest → None ≡ least (filter q (named all))
   left_none rest e l = ap (λ ds. least (filter q (named ds))) (sym e) ∙ l.same
-
--- ---- extents
-
-pub listed_class : (S : Classes) (e : List ℕ) → is_some (extent_class S e) ≡ is_listed e (extent_names S)
-listed_class [] e = refl
-listed_class (k ∷ S) e = at (bytes_eq e k.extent) (listed_class S e)
-  where
-    at : (b : Bool) → is_some (extent_class S e) ≡ is_listed e (extent_names S) → is_some (cond b (Some k.name) (extent_class S e)) ≡ (b || is_listed e (extent_names S))
-    at true h = refl
-    at false h = h
-
--- ---- attributes
-
-looked_up : {A : Type 0} (es : List (List ℕ × A)) (a : List ℕ) → is_some (look_up a es) ≡ is_listed a (names_of es)
-looked_up [] a = refl
-looked_up (e ∷ es) a = at (bytes_eq a e.0) (looked_up es a)
-  where
-    at : (b : Bool) → is_some (look_up a es) ≡ is_listed a (names_of es) → is_some (cond b (Some e.1) (look_up a es)) ≡ (b || is_listed a (names_of es))
-    at true h = refl
-    at false h = h
-
-pub listed_attribute : (S : Classes) (c a : List ℕ) → is_some (attribute_type S c a) ≡ is_listed a (option_map_or (λ (k : Class). names_of k.attributes) (class_named S c) [])
-listed_attribute S c a = ap is_some (sym (attribute_of_class S c a)) ∙ at (class_named S c)
-  where
-    at : (o : Option Class) → is_some (option_and_then (λ (k : Class). look_up a k.attributes) o) ≡ is_listed a (option_map_or (λ (k : Class). names_of k.attributes) o [])
-    at None = refl
-    at (Some k) = looked_up k.attributes a

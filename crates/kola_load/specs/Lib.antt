@@ -5,6 +5,7 @@ pub mod Loaded
 pub mod Calls
 pub mod Ids
 pub mod Labels
+pub mod Members
 pub mod KeyViews
 pub mod SchemaTree
 pub mod SchemaAlphabet

@@ -1,5 +1,5 @@
 -- What the reader of databases answers: the database that a text writes, or the text's first fault.
-use Rattle.std.specs.Prelude.{◌≡◌, ℕ, ◌==◌, ◌||◌, Bool, if◌then◌else◌, List, codes, Some, Ok, Err, IsPermutation}
+use Rattle.std.specs.Prelude.{◌≡◌, ◌⊎◌, ℕ, ◌==◌, ◌||◌, Bool, if◌then◌else◌, List, codes, Some, Ok, Err, IsPermutation}
 use Rattle.std.specs.List.{list_all}
 use Rattle.std.specs.Str.{IsUtf8}
 use Rattle.serde_json.specs.Data.{Data}
@@ -41,3 +41,7 @@ IsFirstFault S text f = (j : Data) × Reads text j × (db_of S j ≡ Err f)
 abbrev pub OneAnswer : Type 0
 OneAnswer = (S : Classes) (text : List ℕ) (f : DbFault) → (f ≡ Memory → ⊥) → IsFirstFault S text f
     → ((db : Database) → IsLoaded S text db → ⊥) × ((g : DbFault) → (g ≡ Memory → ⊥) → IsFirstFault S text g → g ≡ f)
+
+-- a text reads as a value that writes objects without a fault, or it has a first fault
+abbrev pub HasAnswer : Classes → List ℕ → Type 0
+HasAnswer S text = ((j : Data) × (os : Objects) × Reads text j × (db_of S j ≡ Ok os)) ⊎ ((f : DbFault) × (f ≡ Memory → ⊥) × IsFirstFault S text f)

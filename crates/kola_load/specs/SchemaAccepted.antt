@@ -21,6 +21,10 @@ use Rattle.kola_load.specs.declared.schema_fault.SchemaWhy.TheVariants.{Lex, Une
 use Rattle.kola_load.specs.declared.schema_fault.SchemaFault.{SchemaFault}
 use Rattle.kola_load.specs.declared.schema_fault.SchemaFault.TheVariants.{At, Memory}
 
+-- how many sets may nest in a type
+abbrev pub greatest_nesting : ℕ
+greatest_nesting = 100
+
 -- the schemas in whose types at most d sets nest
 abbrev pub Schemas : ℕ → List ClassAt → List Placed → Type 0
 Schemas d cs = SchemaText cs d

@@ -1,12 +1,13 @@
 //! Databases from their text.
-ghost use Rattle.std.specs.Prelude.{◌≡◌, map, flat_map, IfOk, IfErr};
+ghost use Rattle.std.specs.Prelude.{◌≡◌, true, map, flat_map, IfOk, IfErr};
 ghost use Rattle.std.specs.List.{list_all};
-ghost use Rattle.serde_json.specs.Data.{Data};
-ghost use Rattle.serde_json.specs.View.{view};
+ghost use Rattle.serde_json.specs.Data.{Data, object};
+ghost use Rattle.serde_json.specs.View.{view, members_view};
 ghost use Rattle.kola_values.specs.Sets.{Each};
 ghost use Rattle.kola_database.specs.MeetsTests.{IsHeld};
 ghost use Rattle.kola_database.specs.ObjectViews.{object_tree};
 ghost use Rattle.kola_load.specs.Calls.{Finds, IsOfText};
+ghost use Rattle.kola_load.specs.Json.{is_object};
 ghost use Rattle.kola_load.specs.Loaded.{is_blank, json_text, Reads, IsLoaded, IsFirstFault};
 ghost use Rattle.kola_load.specs.Loading.{db_fault};
 ghost use Rattle.kola_load.specs.Written.{written};
@@ -19,7 +20,7 @@ use crate::objects::read_objects;
 use kola_core::Memory;
 use kola_database::{Db, ObjectDef};
 use kola_schema::Schema;
-use serde_json::Value;
+use serde_json::{Map, Value};
 use std::alloc::Global;
 
 // Whether a byte is a blank, a tab or one of a line's end.
@@ -70,14 +71,24 @@ fn joined(alloc: Global, lists: Vec<Vec<ObjectDef>>) -> Result<Vec<ObjectDef>, M
     Ok(all)
 }
 
-// The objects that a value writes.
+// The members of a value; none where it is no object.
+fn members_of(alloc: Global, value: Value) -> Map<String, Value>
+    ensures { is_object (view value) ≡ true → object (members_view result.entries) ≡ view value }
+{
+    match value {
+        Value::Object(members) => members,
+        _ => Map::new(alloc),
+    }
+}
+
+// The objects that a value writes. The value goes as its objects come.
 fn objects_of(alloc: Global, schema: &Schema, value: Value) -> Result<Vec<ObjectDef>, DbFault>
     ensures { Finds (db_fault schema.now (view value)) (λ v. map object_tree v.items ≡ written schema.now (view value)) result }
 {
     check_members(alloc, schema, &value)?;
     let ids = all_ids(alloc, schema, &value)?;
-    let lists = read_objects(alloc, schema, &ids, &value)?;
-    drop(value);
+    let members = members_of(alloc, value);
+    let lists = read_objects(alloc, schema, &ids, members)?;
     drop(ids);
     check_keys(alloc, schema, lists.as_slice())?;
     let objects = joined(alloc, lists)?;

@@ -5,7 +5,6 @@ ghost use Rattle.kola_load.specs.Loading.{members_fault};
 
 use crate::DbFault;
 use crate::names::{Knows, least_unknown};
-use kola_core::{Memory, Name};
 use kola_schema::Schema;
 use serde_json::Value;
 use std::alloc::Global;
@@ -21,9 +20,8 @@ impl Knows for Extents<'_> {
 
     ghost names = { λ e. extent_names e.schema.now };
 
-    fn knows(&self, alloc: Global, name: &str) -> Result<bool, Memory> {
-        let name = Name::from_text(alloc, name)?;
-        Ok(self.schema.class_of(&name).is_some())
+    fn knows(&self, name: &str) -> bool {
+        self.schema.has_extent(name)
     }
 }
 

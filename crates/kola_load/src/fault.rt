@@ -1,31 +1,25 @@
 //! Why a text is no database of a schema.
 use kola_core::{Memory, Name, Text};
 use std::alloc::AllocFailed;
-use thiserror::Error;
 
 /// Why a text is no database of a schema: the first fault of its JSON value, or why it has none.
-#[derive(Debug, Drop, Error)]
+#[derive(Drop)]
 pub enum DbFault {
     /// The text is not UTF-8, or it is no JSON that nests at most 127 deep.
-    #[error("NotJson")]
     NotJson,
     /// The value is no object.
-    #[error("NotObject")]
     NotObject,
     /// A member names no extent.
-    #[error("UnknownExtent {}", .name.as_text())]
     UnknownExtent {
         /// The least such name by its bytes.
         name: Text,
     },
     /// The member of an extent is no array.
-    #[error("NotAnArray {}", .extent.as_text())]
     NotAnArray {
         /// The extent.
         extent: Name,
     },
     /// An element of an extent is no object.
-    #[error("NotAnObject {} {index}", .extent.as_text())]
     NotAnObject {
         /// The extent.
         extent: Name,
@@ -33,7 +27,6 @@ pub enum DbFault {
         index: usize,
     },
     /// The id of an element is absent or no integer from 1 to 4294967295.
-    #[error("BadId {} {index}", .extent.as_text())]
     BadId {
         /// The extent.
         extent: Name,
@@ -41,7 +34,6 @@ pub enum DbFault {
         index: usize,
     },
     /// An earlier element of the extent has the id.
-    #[error("TwiceId {} {id}", .extent.as_text())]
     TwiceId {
         /// The extent.
         extent: Name,
@@ -49,7 +41,6 @@ pub enum DbFault {
         id: u32,
     },
     /// A member of an object is no attribute of its class.
-    #[error("UnknownAttribute {} {id} {}", .class.as_text(), .name.as_text())]
     UnknownAttribute {
         /// The object's class.
         class: Name,
@@ -59,7 +50,6 @@ pub enum DbFault {
         name: Text,
     },
     /// An attribute has no member.
-    #[error("MissingAttribute {} {id} {}", .class.as_text(), .name.as_text())]
     MissingAttribute {
         /// The object's class.
         class: Name,
@@ -69,7 +59,6 @@ pub enum DbFault {
         name: Name,
     },
     /// The member of an attribute is not of its type.
-    #[error("WrongType {} {id} {}", .class.as_text(), .name.as_text())]
     WrongType {
         /// The object's class.
         class: Name,
@@ -79,7 +68,6 @@ pub enum DbFault {
         name: Name,
     },
     /// A reference names no object of its class.
-    #[error("NoSuchObject {} {id} {} {target}", .class.as_text(), .name.as_text())]
     NoSuchObject {
         /// The object's class.
         class: Name,
@@ -91,7 +79,6 @@ pub enum DbFault {
         target: u32,
     },
     /// Two objects agree on all attributes of a key of their class.
-    #[error("KeyRepeats {} {key} {first} {second}", .class.as_text())]
     KeyRepeats {
         /// The objects' class.
         class: Name,
@@ -103,7 +90,6 @@ pub enum DbFault {
         second: u32,
     },
     /// Memory is wanted.
-    #[error("Memory")]
     Memory,
 }
 

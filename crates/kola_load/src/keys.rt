@@ -1,22 +1,23 @@
 //! The keys of a database: no object agrees with an earlier one of its class on all attributes of a key.
-ghost use Rattle.std.specs.Prelude.{◌≡◌, ◌+◌, [], map, position, IfOk};
+ghost use Rattle.std.specs.Prelude.{◌≡◌, ◌+◌, [], Some, None, map, position, IfOk};
+ghost use Rattle.std.specs.BTreeMap.{get, Updates};
 ghost use Rattle.std.specs.Str.{bytes_eq};
 ghost use Rattle.std.specs.Cmp.Lexicographic.{slice_cmp};
 ghost use Rattle.kola_values.specs.Values.{VUnit};
 ghost use Rattle.kola_values.specs.Order.{cmp};
 ghost use Rattle.kola_schema.specs.Schemas.{names_of};
 ghost use Rattle.kola_database.specs.ObjectViews.{object_tree};
-ghost use Rattle.kola_schema.specs.SchemaViews.{class_tree};
 ghost use Rattle.kola_values.specs.Views.{value_tree, value_at};
 ghost use Rattle.kola_load.specs.Calls.{Finds, Nothing};
 ghost use Rattle.kola_load.specs.KeyViews.{key_tree, key_cmp, value_at_place, AreOfClass, AreOfClasses, lists_fault};
 ghost use Rattle.kola_load.specs.Loading.{first_among, repeat_fault, keys_fault};
+ghost use Rattle.kola_load.specs.declared.fault.DbFault.TheVariants as faults;
 
 use crate::DbFault;
 use kola_core::{Memory, Name, Names};
 use kola_database::ObjectDef;
-use kola_schema::{ClassDef, Schema};
-use kola_values::{Ty, Value, cmp_values};
+use kola_schema::{IndexedClass, Schema};
+use kola_values::{Value, cmp_values};
 use std::alloc::Global;
 use std::cmp::Ordering;
 use std::collections::BTreeMap;
@@ -91,21 +92,17 @@ impl Ord for KeyOf<'_> {
     }
 }
 
-// The place of a name among attributes.
-fn place_of(attributes: &[(Name, Ty)], a: &Name) -> Option<usize>
-    ensures { result ≡ position (λ e. bytes_eq a.now e.0) attributes.now }
-{
-    attributes.iter().position(|attribute| a.is(&attribute.0))
-}
-
 // The places of the names of a key among the attributes of a class.
-fn places_of(alloc: Global, class: &ClassDef, key: &[Name]) -> Result<Vec<Option<usize>>, Memory>
+fn places_of(
+    alloc: Global,
+    class: &IndexedClass,
+    key: &[Name],
+) -> Result<Vec<Option<usize>>, Memory>
     ensures { IfOk result (λ v. v.items ≡ map (λ a. position (bytes_eq a) (names_of class.now.attributes)) key.now) }
 {
-    let attributes = class.attributes.as_slice();
     let mut places = Vec::new(alloc);
     for a in key {
-        let place = place_of(attributes, a);
+        let place = class.attribute_place(a.as_text());
         places.push(place)?;
     }
     Ok(places)
@@ -142,48 +139,100 @@ fn key_of<'a>(
     Ok(KeyOf { values })
 }
 
+// Takes what an object says at a key into a table; the id that the table had there, where an earlier object says the same.
+fn earlier<'a>(
+    seen: &mut BTreeMap<KeyOf<'a>, u32>,
+    said: KeyOf<'a>,
+    id: u32,
+) -> Result<Option<u32>, Memory>
+    ensures found { IfOk result (λ r. r ≡ get key_cmp seen.old said.entry) }
+    ensures taken { IfOk result (λ r. r ≡ None → Updates key_cmp seen.old seen.new said.entry (Some id)) }
+{
+    if let Some(first) = seen.get(&said) {
+        return Ok(Some(*first));
+    }
+    seen.insert(said, id)?;
+    Ok(None)
+}
+
+// The fault that two objects of a class agree on a key of a place.
+fn key_repeats(class: &Name, key: usize, first: u32, second: u32) -> DbFault
+    ensures { (result ≡ faults.Memory → ⊥) → result ≡ faults.KeyRepeats class.now key first second }
+{
+    match class.copy() {
+        Ok(class) => DbFault::KeyRepeats {
+            class,
+            key,
+            first,
+            second,
+        },
+        Err(wanting) => DbFault::from(wanting),
+    }
+}
+
 // Whether no object agrees with an earlier one on a key, which stands at a place counted from 1.
 fn check_key(
     alloc: Global,
-    class: &ClassDef,
+    unit: &Value,
+    class: &IndexedClass,
     place: usize,
     key: &Names,
     objects: &[ObjectDef],
 ) -> Result<(), DbFault>
-    requires { AreOfClass (class_tree class.now) (map object_tree objects.now) }
-    ensures { Finds (first_among (repeat_fault (class_tree class.now) place key.now) [] (map object_tree objects.now)) Nothing result }
+    requires unit { value_tree unit.now ≡ VUnit }
+    requires objects { AreOfClass class.now (map object_tree objects.now) }
+    ensures { Finds (first_among (repeat_fault class.now place key.now) [] (map object_tree objects.now)) Nothing result }
 {
-    let unit = Value::Unit;
     let places = places_of(alloc, class, key.as_slice())?;
     let mut seen: BTreeMap<KeyOf<'_>, u32> = BTreeMap::new(alloc);
     for object in objects {
-        let said = key_of(alloc, &unit, object, places.as_slice())?;
-        if let Some(first) = seen.get(&said) {
-            return Err(DbFault::KeyRepeats {
-                class: class.name.copy()?,
-                key: place,
-                first: *first,
-                second: object.id,
-            });
+        let said = key_of(alloc, unit, object, places.as_slice())?;
+        let before = earlier(&mut seen, said, object.id)?;
+        match before {
+            Some(first) => return Err(key_repeats(&class.get().name, place, first, object.id)),
+            None => {}
         }
-        seen.insert(said, object.id)?;
     }
     Ok(())
 }
 
 // Whether no object of a class agrees with an earlier one on a key of the class.
-fn check_class(alloc: Global, class: &ClassDef, objects: &[ObjectDef]) -> Result<(), DbFault>
-    requires { AreOfClass (class_tree class.now) (map object_tree objects.now) }
-    ensures { Finds (keys_fault (class_tree class.now) (map object_tree objects.now)) Nothing result }
+fn check_class(
+    alloc: Global,
+    unit: &Value,
+    class: &IndexedClass,
+    objects: &[ObjectDef],
+) -> Result<(), DbFault>
+    requires unit { value_tree unit.now ≡ VUnit }
+    requires objects { AreOfClass class.now (map object_tree objects.now) }
+    ensures { Finds (keys_fault class.now (map object_tree objects.now)) Nothing result }
 {
-    let keys = class.keys.as_slice();
+    let keys = class.get().keys.as_slice();
     for i in 0..keys.len() {
-        check_key(alloc, class, i + 1, &keys[i], objects)?;
+        check_key(alloc, unit, class, i + 1, &keys[i], objects)?;
     }
     Ok(())
 }
 
 // The same of the objects of each class, which the lists have in the order of the schema.
+fn check_classes(
+    alloc: Global,
+    unit: &Value,
+    schema: &Schema,
+    lists: &[Vec<ObjectDef>],
+) -> Result<(), DbFault>
+    requires unit { value_tree unit.now ≡ VUnit }
+    requires objects { AreOfClasses schema.now (map (λ os. map object_tree os.items) lists.now) }
+    ensures { Finds (lists_fault schema.now (map (λ os. map object_tree os.items) lists.now)) Nothing result }
+{
+    let classes = schema.classes();
+    for i in 0..classes.len() {
+        check_class(alloc, unit, &classes[i], &lists[i])?;
+    }
+    Ok(())
+}
+
+// The same.
 pub(crate) fn check_keys(
     alloc: Global,
     schema: &Schema,
@@ -192,9 +241,5 @@ pub(crate) fn check_keys(
     requires { AreOfClasses schema.now (map (λ os. map object_tree os.items) lists.now) }
     ensures { Finds (lists_fault schema.now (map (λ os. map object_tree os.items) lists.now)) Nothing result }
 {
-    let classes = schema.classes();
-    for i in 0..classes.len() {
-        check_class(alloc, classes[i].get(), &lists[i])?;
-    }
-    Ok(())
+    check_classes(alloc, &Value::Unit, schema, lists)
 }

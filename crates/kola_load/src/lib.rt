@@ -25,12 +25,7 @@ mod values;
 pub use db::read_db;
 pub use db_laws::a_text_has_one_answer;
 pub use fault::DbFault;
+pub use kola_base::is_name;
 pub use schema_fault::{SchemaFault, SchemaWhy};
 pub use schema_laws::a_text_is_one_schema_or_has_one_fault;
-pub use schema_names::is_name;
 pub use schema_read::read_schema;
-
-#[cfg(test)]
-mod db_samples;
-#[cfg(test)]
-mod db_tests;

@@ -12,8 +12,8 @@ use std::alloc::Global;
 pub(crate) trait Knows {
     ghost names: { Self → List (List ℕ) };
 
-    fn knows(&self, alloc: Global, name: &str) -> Result<bool, Memory>
-        ensures { IfOk result (λ b. b ≡ is_listed name.now (names self.now)) };
+    fn knows(&self, name: &str) -> bool
+        ensures { result ≡ is_listed name.now (names self.now) };
 }
 
 // The least name of a member that is not known.
@@ -25,7 +25,7 @@ pub(crate) fn least_unknown<K: Knows>(
     ensures { IfOk result (λ o. o ≡ least (filter (λ n. not (is_listed n (K.names known.now))) (names_of_members (members_view members.now.entries)))) }
 {
     for (name, _) in members {
-        if !known.knows(alloc, name.as_str())? {
+        if !known.knows(name.as_str()) {
             let text = Text::from_text(alloc, name.as_str())?;
             return Ok(Some(text));
         }

@@ -1,15 +1,18 @@
 //! The objects of a database: each has exactly the attributes of its class, each of its type, and its references name objects.
-ghost use Rattle.std.specs.Prelude.{◌≡◌, codes, ◌∷◌, [], map, Some, IfOk};
-ghost use Rattle.serde_json.specs.View.{view};
-ghost use Rattle.kola_schema.specs.Schemas.{class_named, names_of};
+ghost use Rattle.std.specs.Prelude.{◌≡◌, codes, ◌∷◌, map, IfOk};
+ghost use Rattle.serde_json.specs.Data.{object};
+ghost use Rattle.serde_json.specs.View.{view, members_view};
+ghost use Rattle.kola_schema.specs.Schemas.{names_of};
 ghost use Rattle.kola_schema.specs.SchemaViews.{class_tree};
 ghost use Rattle.kola_database.specs.ObjectViews.{object_tree};
 ghost use Rattle.kola_values.specs.Views.{type_entry, value_entry};
 ghost use Rattle.kola_load.specs.Calls.{Finds};
 ghost use Rattle.kola_load.specs.Ids.{there};
-ghost use Rattle.kola_load.specs.Json.{least, names_beside};
+ghost use Rattle.kola_load.specs.Members.{elements_at, AreLeft};
+ghost use Rattle.kola_load.specs.Json.{elements, least, names_beside};
 ghost use Rattle.kola_load.specs.Loading.{first_of, attribute_fault, object_fault, objects_fault};
-ghost use Rattle.kola_load.specs.Written.{id_in, attribute_in, object_in, objects_in, extent_of};
+ghost use Rattle.kola_load.specs.declared.fault.DbFault.TheVariants as faults;
+ghost use Rattle.kola_load.specs.Written.{id_in, attribute_in, object_in, objects_in};
 
 use crate::DbFault;
 use crate::ids::Ids;
@@ -18,50 +21,70 @@ use crate::names::{Knows, least_unknown};
 use crate::values::{missing, value_of};
 use kola_core::{Memory, Name, Text};
 use kola_database::ObjectDef;
-use kola_schema::{ClassDef, Schema};
+use kola_schema::{ClassDef, IndexedClass, Schema};
 use kola_values::{Ty, Value, ValueFields};
-use serde_json::Value as Json;
+use serde_json::{Map, Value as Json};
 use std::alloc::Global;
 
-// The names of the members of an object of the class of a name: `#` and the attributes.
+// The names of the members of an object of a class: `#` and the attributes.
 #[derive(Drop)]
 struct Labels<'a> {
-    schema: &'a Schema,
-    class: &'a Name,
+    class: &'a IndexedClass,
 }
 
 impl Knows for Labels<'_> {
     ghost use Rattle.kola_load.specs.Labels.{labels};
 
-    ghost names = { λ l. labels l.schema.now l.class.now };
+    ghost names = { λ l. labels l.class.now };
 
-    fn knows(&self, alloc: Global, name: &str) -> Result<bool, Memory> {
-        if name == "#" {
-            return Ok(true);
-        }
-        let name = Name::from_text(alloc, name)?;
-        Ok(self.schema.attribute(self.class, &name).is_some())
+    fn knows(&self, name: &str) -> bool {
+        name == "#" || self.class.has_attribute(name)
     }
 }
 
 // The least name of a member of an object that is neither `#` nor an attribute.
-fn unknown_label(
-    alloc: Global,
-    schema: &Schema,
-    class: &ClassDef,
-    object: &Json,
-) -> Result<Option<Text>, Memory>
-    requires { class_named schema.now class.now.name ≡ Some (class_tree class.now) }
+fn unknown_label(alloc: Global, class: &IndexedClass, object: &Json) -> Result<Option<Text>, Memory>
     ensures { IfOk result (λ o. o ≡ least (names_beside (codes "#" ∷ names_of class.now.attributes) (view object.now))) }
 {
     let Some(members) = object.as_object() else {
         return Ok(None);
     };
-    let labels = Labels {
-        schema,
-        class: &class.name,
-    };
+    let labels = Labels { class };
     least_unknown(alloc, &labels, members)
+}
+
+// The fault that an attribute has no member.
+fn missing_attribute(class: &Name, id: u32, name: &Name) -> Result<DbFault, Memory>
+    ensures { IfOk result (λ f. f ≡ faults.MissingAttribute class.now id name.now) }
+{
+    Ok(DbFault::MissingAttribute {
+        class: class.copy()?,
+        id,
+        name: name.copy()?,
+    })
+}
+
+// The fault that the member of an attribute is not of its type.
+fn wrong_type(class: &Name, id: u32, name: &Name) -> Result<DbFault, Memory>
+    ensures { IfOk result (λ f. f ≡ faults.WrongType class.now id name.now) }
+{
+    Ok(DbFault::WrongType {
+        class: class.copy()?,
+        id,
+        name: name.copy()?,
+    })
+}
+
+// The fault that a reference names no object of its class.
+fn no_such_object(class: &Name, id: u32, name: &Name, target: u32) -> Result<DbFault, Memory>
+    ensures { IfOk result (λ f. f ≡ faults.NoSuchObject class.now id name.now target) }
+{
+    Ok(DbFault::NoSuchObject {
+        class: class.copy()?,
+        id,
+        name: name.copy()?,
+        target,
+    })
 }
 
 // An attribute with its value in an object.
@@ -78,26 +101,13 @@ fn read_attribute(
 {
     let (name, t) = attribute;
     let Some(member) = object.get(name.as_text()) else {
-        return Err(DbFault::MissingAttribute {
-            class: class.name.copy()?,
-            id,
-            name: name.copy()?,
-        });
+        return Err(missing_attribute(&class.name, id, name)?);
     };
     let Some(value) = value_of(alloc, t, member)? else {
-        return Err(DbFault::WrongType {
-            class: class.name.copy()?,
-            id,
-            name: name.copy()?,
-        });
+        return Err(wrong_type(&class.name, id, name)?);
     };
     if let Some(target) = missing(ids, t, member) {
-        return Err(DbFault::NoSuchObject {
-            class: class.name.copy()?,
-            id,
-            name: name.copy()?,
-            target,
-        });
+        return Err(no_such_object(&class.name, id, name, target)?);
     }
     Ok((name.copy()?, value))
 }
@@ -121,25 +131,17 @@ fn read_attributes(
     Ok(values)
 }
 
-// The object that an element writes.
-fn read_object(
+// The object of an id that an element writes, of which each member is known.
+fn read_known(
     alloc: Global,
-    schema: &Schema,
     ids: &Ids,
     class: &ClassDef,
+    id: u32,
     object: &Json,
 ) -> Result<ObjectDef, DbFault>
-    requires { class_named schema.now class.now.name ≡ Some (class_tree class.now) }
-    ensures { Finds (object_fault (there ids.now) (class_tree class.now) (view object.now)) (λ o. object_tree o ≡ object_in (class_tree class.now) (view object.now)) result }
+    requires { id ≡ id_in (view object.now) }
+    ensures { Finds (first_of (attribute_fault (there ids.now) (class_tree class.now) (view object.now)) class.now.attributes) (λ o. object_tree o ≡ object_in (class_tree class.now) (view object.now)) result }
 {
-    let id = own_id(object).unwrap_or(0);
-    if let Some(name) = unknown_label(alloc, schema, class, object)? {
-        return Err(DbFault::UnknownAttribute {
-            class: class.name.copy()?,
-            id,
-            name,
-        });
-    }
     let values = read_attributes(alloc, ids, class, id, object)?;
     Ok(ObjectDef {
         class: class.name.copy()?,
@@ -148,51 +150,86 @@ fn read_object(
     })
 }
 
-// The elements of the extent of a class.
-fn elements_of<'a>(class: &ClassDef, value: &'a Json) -> &'a [Json]
-    ensures { map view result.now ≡ extent_of (view value.now) (class_tree class.now) }
+// The fault that a member of an object is no attribute.
+fn unknown_attribute(class: &Name, id: u32, name: Text) -> DbFault
+    ensures { (result ≡ faults.Memory → ⊥) → result ≡ faults.UnknownAttribute class.now id name }
 {
-    match value.get(class.extent.as_text()) {
-        Some(member) => match member.as_array() {
-            Some(elements) => elements.as_slice(),
-            None => &[],
-        },
-        None => &[],
+    match class.copy() {
+        Ok(class) => DbFault::UnknownAttribute { class, id, name },
+        Err(wanting) => DbFault::from(wanting),
     }
 }
 
-// The objects of a class.
+// The object that an element writes.
+fn read_object(
+    alloc: Global,
+    ids: &Ids,
+    class: &IndexedClass,
+    object: &Json,
+) -> Result<ObjectDef, DbFault>
+    ensures { Finds (object_fault (there ids.now) class.now (view object.now)) (λ o. object_tree o ≡ object_in class.now (view object.now)) result }
+{
+    let id = own_id(object).unwrap_or(0);
+    let unknown = unknown_label(alloc, class, object)?;
+    match unknown {
+        Some(name) => Err(unknown_attribute(&class.get().name, id, name)),
+        None => read_known(alloc, ids, class.get(), id, object),
+    }
+}
+
+// The objects of a class that elements write. Each element goes as soon as its object is made.
 fn read_class(
     alloc: Global,
-    schema: &Schema,
     ids: &Ids,
-    class: &ClassDef,
-    value: &Json,
+    class: &IndexedClass,
+    elements: Vec<Json>,
 ) -> Result<Vec<ObjectDef>, DbFault>
-    requires { class_named schema.now class.now.name ≡ Some (class_tree class.now) }
-    ensures { Finds (objects_fault (there ids.now) (view value.now) (class_tree class.now)) (λ v. map object_tree v.items ≡ objects_in (view value.now) (class_tree class.now)) result }
+    ensures { Finds (first_of (object_fault (there ids.now) class.now) (map view elements.items)) (λ v. map object_tree v.items ≡ map (object_in class.now) (map view elements.items)) result }
 {
     let mut objects = Vec::new(alloc);
-    for element in elements_of(class, value) {
-        let object = read_object(alloc, schema, ids, class, element)?;
+    for element in elements {
+        let object = read_object(alloc, ids, class, &element)?;
         objects.push(object)?;
     }
     Ok(objects)
 }
 
-// The objects of each class.
+// The elements of an array; any other value has none.
+fn elements_in(alloc: Global, value: Json) -> Vec<Json>
+    ensures { map view result.items ≡ elements (view value) }
+{
+    match value {
+        Json::Array(elements) => elements,
+        _ => Vec::new(alloc),
+    }
+}
+
+// The elements of the extent of a name, taken out of the members.
+fn elements_of(alloc: Global, members: &mut Map<String, Json>, extent: &Name) -> Vec<Json>
+    ensures taken { map view result.items ≡ elements_at extent.now members.old.entries }
+    ensures others { AreLeft extent.now members.old.entries members.new.entries }
+{
+    match members.remove(extent.as_text()) {
+        Some(member) => elements_in(alloc, member),
+        None => Vec::new(alloc),
+    }
+}
+
+// The objects of each class, of which the members have the elements.
 pub(crate) fn read_objects(
     alloc: Global,
     schema: &Schema,
     ids: &Ids,
-    value: &Json,
+    given: Map<String, Json>,
 ) -> Result<Vec<Vec<ObjectDef>>, DbFault>
-    ensures { Finds (first_of (objects_fault (there ids.now) (view value.now)) schema.now) (λ v. map (λ l. map object_tree l.items) v.items ≡ map (objects_in (view value.now)) schema.now) result }
+    ensures { Finds (first_of (objects_fault (there ids.now) (object (members_view given.entries))) schema.now) (λ v. map (λ l. map object_tree l.items) v.items ≡ map (objects_in (object (members_view given.entries))) schema.now) result }
 {
     schema.well_formed();
+    let mut members = given;
     let mut lists = Vec::new(alloc);
     for class in schema.classes() {
-        let objects = read_class(alloc, schema, ids, class.get(), value)?;
+        let elements = elements_of(alloc, &mut members, &class.get().extent);
+        let objects = read_class(alloc, ids, class, elements)?;
         lists.push(objects)?;
     }
     Ok(lists)

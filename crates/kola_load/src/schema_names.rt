@@ -1,15 +1,14 @@
 //! The first fault of the names of a schema.
 
 ghost use Rattle.std.specs.Prelude.{◌≡◌, [], map, IfOk};
-ghost use Rattle.std.specs.Str.{str_eq_ignore_ascii_case};
-ghost use Rattle.kola_load.specs.Names.{is_among, is_one_of, is_name, is_extent_name};
-ghost use Rattle.kola_load.specs.SchemaFaults.{starts_with_capital, rank};
+ghost use Rattle.kola_load.specs.Names.{is_extent_name};
+ghost use Rattle.kola_load.specs.SchemaFaults.{starts_with_capital, rank, class_names, extents};
 ghost use Rattle.kola_load.specs.FirstMarks.{goes_before, earlier, unless, first_of, not_allowed, names_from, twice, unknown_class, unknown_key, unknown_keys, unknown_types, first_in_class, first_mark};
 ghost use Rattle.kola_load.specs.SchemaViews.{named_view, type_view, key_view, attribute_view, class_view};
 
 use crate::schema_fault::{Mark, NameWhy};
 use crate::schema_tree::{AttributeAt, ClassAt, TypeAt};
-use kola_base::Named;
+use kola_base::{Alphabet, Named, TermWord, is_name};
 use kola_core::{Memory, NameTable};
 use std::alloc::Global;
 
@@ -60,49 +59,11 @@ fn starts_with_capital(name: &str) -> bool
     }
 }
 
-fn is_same_word(word: &[u8], other: &[u8]) -> bool
-    ensures { result ≡ str_eq_ignore_ascii_case word.now other.now }
-{
-    word.eq_ignore_ascii_case(other)
-}
-
-fn is_among(words: &[u8], word: &[u8]) -> bool
-    ensures { result ≡ is_among words.now word.now }
-{
-    words
-        .split(|byte| *byte == b' ')
-        .any(|other| is_same_word(word, other))
-}
-
-fn is_one_of(words: &[u8], word: &[u8]) -> bool
-    ensures { result ≡ is_one_of words.now word.now }
-{
-    words.split(|byte| *byte == b' ').any(|other| word == other)
-}
-
-/// Whether a word may be a name in a query: it is none of the words of queries, nor one of those that they leave out, in any case.
-#[tactic(auto, unfolding(crate::specs::Names::is_name))]
-pub fn is_name(word: &[u8]) -> bool
-    ensures { result ≡ is_name word.now }
-{
-    !is_among(
-        b"select distinct from where as in exists for all and or not union intersect except struct set flatten true false",
-        word,
-    ) && !is_among(
-        b"element first last unique sum avg min max count bag list array order group by having define nil undefined like",
-        word,
-    )
-}
-
 #[tactic(auto, unfolding(crate::specs::Names::is_extent_name))]
-fn is_extent_name(word: &[u8]) -> bool
+fn is_extent_name(word: &str) -> bool
     ensures { result ≡ is_extent_name word.now }
 {
-    is_name(word)
-        && !is_one_of(
-            b"id fst snd flat union isect minus o K C if iterate iter join nest unnest eq lt le in inv KP CP ex fa true false count rule block at when inj proof by rev qed here pred set unit int string bool SKIP FAIL BU TD REPEAT GIVEN DO END",
-            word,
-        )
+    is_name(word.as_bytes()) && TermWord::named(word).is_none()
 }
 
 fn not_allowed(class: &ClassAt<'_>) -> Option<Mark>
@@ -115,7 +76,7 @@ fn not_allowed(class: &ClassAt<'_>) -> Option<Mark>
             &class.name,
         ),
         unless(
-            is_extent_name(class.extent.name.as_bytes()),
+            is_extent_name(class.extent.name),
             NameWhy::NotAllowed,
             &class.extent,
         ),
@@ -238,14 +199,34 @@ fn first_in_classes(
     Ok(first)
 }
 
+/// The first name of a class that a class has before, and the first fault inside of a class.
+fn first_of_classes(
+    alloc: Global,
+    classes: &[ClassAt<'_>],
+) -> Result<(Option<Mark>, Option<Mark>), Memory>
+    ensures twice { IfOk result (λ r. r.0 ≡ twice (class_names (map class_view classes.now))) }
+    ensures inside { IfOk result (λ r. r.1 ≡ first_of (first_in_class (names_from [] (class_names (map class_view classes.now)))) (map class_view classes.now)) }
+{
+    let names = class_names(alloc, classes)?;
+    let (known, twice) = table_of(alloc, names.as_slice())?;
+    let inside = first_in_classes(alloc, &known, classes)?;
+    Ok((twice, inside))
+}
+
+/// The first extent that is named as one before.
+fn first_extent_twice(alloc: Global, classes: &[ClassAt<'_>]) -> Result<Option<Mark>, Memory>
+    ensures { IfOk result (λ m. m ≡ twice (extents (map class_view classes.now))) }
+{
+    let extents = extents(alloc, classes)?;
+    let (_, twice) = table_of(alloc, extents.as_slice())?;
+    Ok(twice)
+}
+
 /// The first fault of the names of the classes, and `None` where they have none.
 pub fn first_mark(alloc: Global, classes: &[ClassAt<'_>]) -> Result<Option<Mark>, Memory>
     ensures { IfOk result (λ m. m ≡ first_mark (map class_view classes.now)) }
 {
-    let names = class_names(alloc, classes)?;
-    let (known, twice) = table_of(alloc, names.as_slice())?;
-    let extents = extents(alloc, classes)?;
-    let (_, extent_twice) = table_of(alloc, extents.as_slice())?;
-    let inside = first_in_classes(alloc, &known, classes)?;
+    let (twice, inside) = first_of_classes(alloc, classes)?;
+    let extent_twice = first_extent_twice(alloc, classes)?;
     Ok(earlier(twice, earlier(extent_twice, inside)))
 }

@@ -5,7 +5,7 @@ ghost use Rattle.kola_values.specs.Databases.{Classes};
 ghost use Rattle.kola_load.specs.SchemaFaults.{Stands};
 ghost use Rattle.kola_load.specs.SchemaViews.{class_view};
 ghost use Rattle.kola_load.specs.PlainSchemas.{plain, HaveKeys};
-ghost use Rattle.kola_load.specs.SchemaAccepted.{Writes, FaultOf, IsFault, IsAt, IsSchema, IsMarked, of_text, name_why};
+ghost use Rattle.kola_load.specs.SchemaAccepted.{greatest_nesting, Writes, FaultOf, IsFault, IsAt, IsSchema, IsMarked, of_text, name_why};
 ghost use Rattle.kola_load.specs.declared.schema_fault.Mark.{Mark};
 ghost use Rattle.kola_load.specs.declared.schema_fault.SchemaWhy.{SchemaWhy};
 
@@ -85,13 +85,13 @@ fn schema_within(alloc: Global, text: &[u8], sets: usize) -> Result<Schema, Sche
 /// The first fault is that of its tokens, then that of its syntax, and then the least place at which a name is at fault.
 pub fn read_schema(alloc: Global, text: &[u8]) -> Result<Schema, SchemaFault>
     // What is read is written so.
-    ensures found { IfOk result (Writes SETS text.now) }
+    ensures found { IfOk result (Writes greatest_nesting text.now) }
     // What is written so is read, unless memory runs out.
-    ensures only { (S : Classes) → Writes SETS text.now S → IsSchema S result }
+    ensures only { (S : Classes) → Writes greatest_nesting text.now S → IsSchema S result }
     // What is refused is refused at its first fault.
-    ensures fault { IfErr result (IsFault SETS text.now) }
+    ensures fault { IfErr result (IsFault greatest_nesting text.now) }
     // A text that has a first fault is refused there, unless memory runs out.
-    ensures only_fault { (at : ℕ) (w : SchemaWhy) → FaultOf SETS text.now at w → IsAt at w result }
+    ensures only_fault { (at : ℕ) (w : SchemaWhy) → FaultOf greatest_nesting text.now at w → IsAt at w result }
 {
     schema_within(alloc, text, SETS)
 }

@@ -1,8 +1,9 @@
 //! Schemas: lists of classes with their extents, attributes and keys, each found by its name.
-ghost use Rattle.std.specs.Prelude.{◌≡◌, true, map, slice_get, IfOk};
+ghost use Rattle.std.specs.Prelude.{◌≡◌, true, map, position, slice_get, IfOk};
 ghost use Rattle.std.specs.List.{list_any, list_all};
 ghost use Rattle.std.specs.Option.{option_map, option_copied};
 ghost use Rattle.std.specs.Str.{bytes_eq};
+ghost use Rattle.kola_core.specs.NameLists.{is_listed};
 ghost use Rattle.kola_values.specs.Databases.{attribute_type, extent_class, look_up};
 ghost use Rattle.kola_values.specs.Sets.{Each};
 ghost use Rattle.kola_schema.specs.Schemas.{are_distinct, names_of, class_names, extent_names, is_stored_type, is_key, is_class, is_schema, class_named, extent_named, key_at};
@@ -77,8 +78,8 @@ fn is_stored_type(classes: &[ClassDef], t: &Ty) -> bool
 }
 
 fn are_stored_types(classes: &[ClassDef], entries: &[(Name, Ty)]) -> bool
-    ensures { result ≡ list_all
-        (λ e. is_stored_type (class_names (map class_tree classes.now)) (type_tree e.1)) entries.now }
+    ensures { result
+        ≡ list_all (λ e. is_stored_type (class_names (map class_tree classes.now)) (type_tree e.1)) entries.now }
 {
     entries
         .iter()
@@ -205,6 +206,21 @@ impl IndexedClass {
         &self.class
     }
 
+    /// The number of an attribute: its place in the class's order, counted from 0; `None` exactly where the class has no attribute of the
+    /// name. It takes constant expected time.
+    pub fn attribute_place(&self, a: &str) -> Option<usize>
+        ensures { result ≡ position (bytes_eq a.now) (names_of self.now.attributes) }
+    {
+        self.attributes.place(a)
+    }
+
+    /// Whether the class has an attribute of the name. It takes constant expected time.
+    pub fn has_attribute(&self, a: &str) -> bool
+        ensures { result ≡ is_listed a.now (names_of self.now.attributes) }
+    {
+        self.attributes.holds(a)
+    }
+
     fn attribute(&self, a: &Name) -> Option<&Ty>
         ensures { option_map type_at result ≡ look_up a.now self.now.attributes }
     {
@@ -284,6 +300,28 @@ impl Schema {
     {
         let class = self.at(n)?;
         Some(class.get())
+    }
+
+    /// The number of a class: its place in the schema's order, counted from 0; `None` exactly where the schema has no class of the name. It
+    /// takes constant expected time.
+    pub fn class_place(&self, class: &str) -> Option<usize>
+        ensures { result ≡ position (bytes_eq class.now) (class_names self.now) }
+    {
+        self.names.place(class)
+    }
+
+    /// The number of the class whose extent has the name; `None` exactly where there is none. It takes constant expected time.
+    pub fn extent_place(&self, extent: &str) -> Option<usize>
+        ensures { result ≡ position (bytes_eq extent.now) (extent_names self.now) }
+    {
+        self.extents.place(extent)
+    }
+
+    /// Whether an extent of the schema has the name. It takes constant expected time.
+    pub fn has_extent(&self, extent: &str) -> bool
+        ensures { result ≡ is_listed extent.now (extent_names self.now) }
+    {
+        self.extents.holds(extent)
     }
 
     /// The class of the name; `None` exactly where there is none. It takes constant expected time.

@@ -12,7 +12,7 @@ use Rattle.kola_values.specs.Databases.{Classes, Objects}
 use Rattle.serde_json.specs.Data.{Data}
 use Rattle.kola_load.specs.Loading.{db_of}
 use Rattle.kola_load.specs.Loaded.{Reads}
-use Rattle.kola_load.specs.SchemaAccepted.{Writes, FaultOf}
+use Rattle.kola_load.specs.SchemaAccepted.{greatest_nesting, Writes, FaultOf}
 use Rattle.kola_load.specs.declared.schema_fault.SchemaWhy.{SchemaWhy}
 use Rattle.kola_load.specs.declared.fault.DbFault.{DbFault}
 use Rattle.kola_load.specs.declared.fault.DbFault.TheVariants.{NotJson, Memory}
@@ -23,7 +23,7 @@ use Rattle.kola_top.specs.SelectForm.{SelectForm, Says}
 use Rattle.kola_top.specs.Report.{report_text}
 use Rattle.kola_top.specs.FaultLines.{usage_line, too_long_line, layout_fault_line, missing_line, not_built_line, schema_line, database_line}
 use Rattle.kola_top.specs.Runs.{is_written}
-use Rattle.kola_top.specs.Stages.{greatest_length, greatest_nesting, text_at, text_in, IsQuery, IsNoQuery, IsTaken, IsLaidOut, HasSections, HasSchema, HasQuery, HasDatabase}
+use Rattle.kola_top.specs.Stages.{greatest_length, text_at, text_in, IsQuery, IsNoQuery, IsTaken, IsLaidOut, HasSections, HasSchema, HasQuery, HasDatabase}
 use Rattle.kola_top.specs.Answer.{IsRefused, Answer, usage, too_long, layout, missing, schema, query, database, report, report_of_form}
 use Rattle.kola_top.proofs.FoundLaws.{one_fault, one_layout}
 use Rattle.kola_top.proofs.FormLaws.{one_form}

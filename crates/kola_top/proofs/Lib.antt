@@ -7,6 +7,7 @@ pub mod FormReads
 mod Staged
 pub mod AnswerLaws
 pub mod StageLaws
+mod AnswerExists
 mod RunLaws
 mod AnswerExamples
 pub mod PlaceLaws

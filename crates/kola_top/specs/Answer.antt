@@ -12,13 +12,13 @@ use Rattle.kola_text.specs.Spelling.{fun_spelling}
 use Rattle.kola_canon.specs.Spelling.{value_spelling}
 use Rattle.kola_values.specs.Databases.{Classes}
 use Rattle.kola_load.specs.Loaded.{IsFirstFault as IsFirstDbFault}
-use Rattle.kola_load.specs.SchemaAccepted.{FaultOf}
+use Rattle.kola_load.specs.SchemaAccepted.{greatest_nesting, FaultOf}
 use Rattle.kola_load.specs.declared.schema_fault.SchemaWhy.{SchemaWhy}
 use Rattle.kola_load.specs.declared.fault.DbFault.{DbFault}
 use Rattle.kola_load.specs.declared.fault.DbFault.TheVariants.{Memory}
 use Rattle.kola_top.specs.Report.{Report, report_text}
 use Rattle.kola_top.specs.FaultLines.{usage_line, too_long_line, layout_fault_line, missing_line, not_built_line, schema_line, database_line}
-use Rattle.kola_top.specs.Stages.{greatest_length, greatest_nesting, text_at, text_in, IsNoQuery, IsTaken, IsLaidOut, HasSections, HasSchema, HasQuery, HasDatabase}
+use Rattle.kola_top.specs.Stages.{greatest_length, text_at, text_in, IsNoQuery, IsTaken, IsLaidOut, HasSections, HasSchema, HasQuery, HasDatabase}
 
 -- what `run` reports where no block is named: the one step that is taken changes nothing
 abbrev pub unchanged_report : List ℕ → ℕ → List ℕ → Report

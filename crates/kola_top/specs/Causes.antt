@@ -6,10 +6,10 @@ use Rattle.kola_top.specs.declared.status.Status.{Status}
 use Rattle.kola_top.specs.declared.status.Status.TheVariants as statuses
 use Rattle.kola_top.specs.Words.{action_of}
 use Rattle.kola_top.specs.Layout.{lines_of, kinds, IsFirstFault}
-use Rattle.kola_load.specs.SchemaAccepted.{FaultOf}
+use Rattle.kola_load.specs.SchemaAccepted.{greatest_nesting, FaultOf}
 use Rattle.kola_load.specs.declared.schema_fault.SchemaWhy.{SchemaWhy}
 use Rattle.kola_load.specs.declared.fault.DbFault.{DbFault}
-use Rattle.kola_top.specs.Stages.{greatest_length, greatest_nesting, text_at, text_in, IsNoQuery, IsTaken, IsLaidOut, HasSections, HasSchema, HasQuery}
+use Rattle.kola_top.specs.Stages.{greatest_length, text_at, text_in, IsNoQuery, IsTaken, IsLaidOut, HasSections, HasSchema, HasQuery}
 use Rattle.kola_top.specs.Answer.{Answer, IsRefused}
 
 -- what a status says of the words and a job: which refusal it is, and that its cause holds and no earlier one does

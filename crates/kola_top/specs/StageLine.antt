@@ -10,7 +10,7 @@ use Rattle.kola_values.specs.Databases.{Classes, Objects}
 use Rattle.serde_json.specs.Data.{Data}
 use Rattle.kola_load.specs.Loading.{db_of}
 use Rattle.kola_load.specs.Loaded.{Reads}
-use Rattle.kola_load.specs.SchemaAccepted.{Writes, FaultOf}
+use Rattle.kola_load.specs.SchemaAccepted.{greatest_nesting, Writes, FaultOf}
 use Rattle.kola_load.specs.declared.schema_fault.SchemaWhy.{SchemaWhy}
 use Rattle.kola_load.specs.declared.fault.DbFault.{DbFault}
 use Rattle.kola_top.specs.Words.{action_of}
@@ -18,7 +18,7 @@ use Rattle.kola_top.specs.Layout.{lines_of, kinds, AreSections, IsFirstFault}
 use Rattle.kola_top.specs.SelectForm.{SelectForm}
 use Rattle.kola_top.specs.Report.{report_text}
 use Rattle.kola_top.specs.FaultLines.{usage_line, too_long_line, layout_fault_line, missing_line, not_built_line, schema_line, database_line}
-use Rattle.kola_top.specs.Stages.{greatest_length, greatest_nesting, text_at, text_in, IsQuery, IsNoQuery}
+use Rattle.kola_top.specs.Stages.{greatest_length, text_at, text_in, IsQuery, IsNoQuery}
 use Rattle.kola_top.specs.Answer.{IsRefused, report_of_form}
 use Rattle.kola_top.specs.Staged.{Says, Stage, Then}
 

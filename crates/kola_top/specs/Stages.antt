@@ -13,15 +13,11 @@ use Rattle.kola_values.specs.Databases.{Classes, Objects}
 use Rattle.serde_json.specs.Data.{Data}
 use Rattle.kola_load.specs.Loading.{db_of}
 use Rattle.kola_load.specs.Loaded.{Reads}
-use Rattle.kola_load.specs.SchemaAccepted.{Writes}
+use Rattle.kola_load.specs.SchemaAccepted.{greatest_nesting, Writes}
 
 -- the greatest length of a job, in bytes
 abbrev pub greatest_length : ℕ
 greatest_length = 16777216
-
--- how deep sets may nest in a type of a schema
-abbrev pub greatest_nesting : ℕ
-greatest_nesting = 100
 
 -- the text of a section
 abbrev pub text_at : List ℕ → Span → List ℕ

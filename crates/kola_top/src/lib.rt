@@ -20,7 +20,7 @@ mod status;
 mod tests;
 mod words;
 
-pub use answer_laws::{a_job_has_one_answer, answers_have_causes};
+pub use answer_laws::{a_job_has_exactly_one_answer, answers_have_causes};
 pub use laws::{lexemes_say_one_form, lines_make_up_the_job};
 pub use layout::{LayoutFault, LayoutWhy, sections};
 pub use run::run_kola;

@@ -2,7 +2,7 @@
 use Rattle.std.proofs.Common.{◌≡◌, pos, negsuc, true, false, [], ◌∷◌, codes, refl}
 use Rattle.std.specs.declared.cmp.Ordering.TheVariants.{Less, Equal, Greater}
 use Rattle.kola_values.specs.Values.{ValueTree, VUnit, VInt, VBool, VStr, VObj, VPair, VStruct, VSet, VNone, VMore, VEnd, VField, of_items}
-use Rattle.kola_values.specs.Types.{TInt, TStr, TBool, TClass, TVar, TSet, TPair, TStruct, TEnd, TField, same_type, type_nodes}
+use Rattle.kola_values.specs.Types.{TInt, TBool, TClass, TVar, TSet, TPair, TStruct, TEnd, TField, same_type, type_nodes}
 use Rattle.kola_values.specs.Order.{cmp, same}
 use Rattle.kola_values.specs.Sets.{canon, any, has, set_of}
 use Rattle.kola_values.specs.Merging.{merged}

@@ -21,7 +21,7 @@ use Rattle.kola_values.specs.Views.{value_tree}
 use Rattle.kola_values.specs.Models.Exact.{exact}
 use Rattle.kola_values.specs.Models.Total.{cmp_total}
 use Rattle.kola_values.specs.declared.value.Value.{Value}
-use Rattle.kola_values.proofs.Anys.{one_list, rising, any_canon, equal, same_itself, absent, reversed}
+use Rattle.kola_values.proofs.Anys.{one_list, rising, any_canon, equal, same_itself, absent}
 use Rattle.kola_values.proofs.Truth.{both_false}
 
 -- the order of values by their trees

@@ -1,9 +1,9 @@
 -- The members of a list, and the one rising list that has them.
-use Rattle.std.proofs.Common.{◌≡◌, ◌↔◌, ℕ, zero, suc, ◌+◌, ◌<◌, Bool, true, false, ◌||◌, List, [], ◌∷◌, length, get_or, Contains, true≢false, sym, ◌∙◌, ap, refl, arith}
+use Rattle.std.proofs.Common.{◌≡◌, ◌↔◌, ℕ, zero, suc, ◌<◌, Bool, true, false, ◌||◌, List, [], ◌∷◌, length, get_or, Contains, true≢false, sym, ◌∙◌, ap, refl, arith}
 use mathlib.Core.Bool.{or-true}
 use Rattle.kola_values.specs.Values.{ValueTree}
 use Rattle.kola_values.specs.Order.{same}
-use Rattle.kola_values.specs.Sets.{Rising, IsRisingListOf, canon, any, has}
+use Rattle.kola_values.specs.Sets.{IsRisingListOf, canon, any, has}
 use Rattle.kola_values.proofs.Anys.{equal, same_itself, bool_same, has_head, any_canon, rising, one_list}
 
 -- ---- the test and the members

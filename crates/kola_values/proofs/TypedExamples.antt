@@ -1,5 +1,5 @@
 -- What rises, what is well formed, and which values are of a type and of its shape, at values that can be read at a glance.
-use Rattle.std.proofs.Common.{◌≡◌, ◌≤◌, pos, negsuc, true, false, List, [], ◌∷◌, get_or, codes, refl, ap, arith}
+use Rattle.std.proofs.Common.{pos, negsuc, true, false, List, [], ◌∷◌, get_or, codes, refl, ap, arith}
 use Rattle.kola_values.specs.Values.{ValueTree, VUnit, VInt, VBool, VStr, VObj, VPair, VStruct, VSet, VEnd, VField, of_items}
 use Rattle.kola_values.specs.Types.{TInt, TStr, TBool, TUnit, TClass, TVar, TSet, TPair, TStruct, TEnd, TField}
 use Rattle.kola_values.specs.Order.{same}

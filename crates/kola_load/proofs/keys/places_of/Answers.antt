@@ -2,7 +2,6 @@ use Rattle.std.proofs.Common.{◌++◌, ◌∷◌, [], ℕ, List, map, take, pos
 use Rattle.std.proofs.lemmas.List.{take_more, map-append}
 use Rattle.std.specs.Str.{bytes_eq}
 use Rattle.kola_schema.specs.Schemas.{names_of}
-use Rattle.kola_load.proofs.KeyPlaces.{place_named}
 use Rattle.kola_load.proofs.keys.places_of.Goals as goal
 
 pub loop-a-preserved : goal.loop-a-preserved
@@ -13,5 +12,5 @@ loop-a-preserved c =
     let a = c.a-item.result in
     let f = λ (n : List ℕ). position (bytes_eq n) (names_of us) in
     let more = take_more key i a c.loop-a-test.true ∙ ap (λ n. take i key ++ n ∷ []) (sym c.a-item.is) in
-    c.in_ok-push.ensures.items ∙ (λ j. c.loop-a.invariant j ++ (c.place_of-place.ensures ∙ place_named a c.as_slice-attributes.result.now us c.as_slice-attributes.ensures) j ∷ [])
+    c.in_ok-push.ensures.items ∙ (λ j. c.loop-a.invariant j ++ (c.attribute_place-place.ensures ∙ ap f c.as_text.ensures.text) j ∷ [])
     ∙ sym (ap (map f) more ∙ map-append f (take i key) (a ∷ []))

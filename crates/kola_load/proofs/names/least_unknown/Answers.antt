@@ -18,12 +18,12 @@ loop-name-init g c =
 
 pub loop-name-preserved : goal.loop-name-preserved
 loop-name-preserved g c =
-    (tt, tt, left_next (unknown g c.args.known.now) c.args.members.now.entries (c.in-Some.name.now, c.in-Some.field-0-1.now) c.next.new.self c.loop-name.name-iterator c.in-Some.ensures.steps c.loop-name.invariant.2 (told g c.args.known.now _ _ _ c.in_ok-knows.ensures c.as_str.ensures.value c.if-not-branch.false))
+    (tt, tt, left_next (unknown g c.args.known.now) c.args.members.now.entries (c.in-Some.name.now, c.in-Some.field-0-1.now) c.next.new.self c.loop-name.name-iterator c.in-Some.ensures.steps c.loop-name.invariant.2 (told g c.args.known.now _ _ _ c.knows.ensures c.as_str.ensures.value c.if-not-knows.false))
 
-pub returns-then-not-branch : goal.returns-then-not-branch
-returns-then-not-branch g c =
-    ap Some (c.in_ok-text.ensures ∙ c.as_str-then-not-branch.ensures.value)
-    ∙ left_found (unknown g c.args.known.now) c.args.members.now.entries (c.in-Some.name.now, c.in-Some.field-0-1.now) c.next.new.self c.loop-name.name-iterator c.in-Some.ensures.steps c.loop-name.invariant.2 (told g c.args.known.now _ _ _ c.in_ok-knows.ensures c.as_str.ensures.value c.if-not-branch.true)
+pub returns-then-not-knows : goal.returns-then-not-knows
+returns-then-not-knows g c =
+    ap Some (c.in_ok-text.ensures ∙ c.as_str-then-not-knows.ensures.value)
+    ∙ left_found (unknown g c.args.known.now) c.args.members.now.entries (c.in-Some.name.now, c.in-Some.field-0-1.now) c.next.new.self c.loop-name.name-iterator c.in-Some.ensures.steps c.loop-name.invariant.2 (told g c.args.known.now _ _ _ c.knows.ensures c.as_str.ensures.value c.if-not-knows.true)
 
 pub returns : goal.returns
 returns g c = left_none (unknown g c.args.known.now) c.args.members.now.entries c.loop-name.name-iterator c.in-None.ensures.steps.0 c.loop-name.invariant.2

@@ -1,16 +1,23 @@
-use Rattle.std.proofs.Common.{◌≡◌, Some, sym, ap, ◌∙◌}
-use Rattle.serde_json.specs.View.{view, items_view}
-use Rattle.serde_json.specs.Find.{get, as_array}
-use Rattle.kola_schema.specs.SchemaViews.{class_tree}
-use Rattle.kola_load.proofs.JsonParts.{extent_seen}
+use Rattle.std.proofs.Common.{Some, None, [], map, subst, ap, ◌∙◌}
+use Rattle.std.specs.Option.{option_map_or}
+use Rattle.serde_json.specs.View.{view}
+use Rattle.kola_load.specs.Json.{elements}
+use Rattle.kola_load.specs.Members.{elements_at, AreLeft}
+use Rattle.kola_load.proofs.Taken.{member_seen, others_left}
 use Rattle.kola_load.proofs.objects.elements_of.Goals as goal
 
-pub returns-in-Some-as_array : goal.returns-in-Some-as_array
-returns-in-Some-as_array c =
-    let j = view c.args.value.now in
-    let k = class_tree c.args.class.now in
-    let m = view c.in-Some.member.now in
-    let vs = c.as_slice.result.now in
-    let at : get k.extent j ≡ Some m = ap (λ n. get n j) (sym c.as_text.ensures.text) ∙ sym c.in-Some.ensures in
-    let is : as_array m ≡ Some (items_view vs) = sym c.in-Some-as_array.ensures ∙ ap (λ l. Some (items_view l)) (sym c.as_slice.ensures.value) in
-    sym (extent_seen j k m vs at is)
+pub returns-in-Some-clause-taken : goal.returns-in-Some-clause-taken
+returns-in-Some-clause-taken c =
+    c.elements_in.ensures
+    ∙ ap (λ r. option_map_or elements r []) (member_seen c.as_text.result.now c.args.members.now (Some c.in-Some.member) c.in-Some.ensures.value)
+    ∙ ap (λ n. elements_at n c.args.members.now.entries) c.as_text.ensures.text
+
+pub returns-in-Some-clause-others : goal.returns-in-Some-clause-others
+returns-in-Some-clause-others c =
+    subst (λ n. AreLeft n c.args.members.now.entries c.remove.new.self.entries) c.as_text.ensures.text (others_left c.as_text.result.now c.args.members.now c.remove.new.self c.in-Some.ensures.updates)
+
+pub returns-in-None-clause-taken : goal.returns-in-None-clause-taken
+returns-in-None-clause-taken c =
+    ap (map view) c.new.ensures.items
+    ∙ ap (λ r. option_map_or elements r []) (member_seen c.as_text.result.now c.args.members.now None c.in-None.ensures.value)
+    ∙ ap (λ n. elements_at n c.args.members.now.entries) c.as_text.ensures.text

@@ -1,14 +1,15 @@
-use Rattle.std.proofs.Common.{◌≡◌, map, take, drop}
+use Rattle.std.proofs.Common.{◌≡◌, ◌++◌, map}
+use Rattle.std.specs.Vec.Iter.{into_iter_items}
 use Rattle.serde_json.specs.View.{view}
-use Rattle.kola_schema.specs.SchemaViews.{class_tree}
 use Rattle.kola_database.specs.ObjectViews.{object_tree}
 use Rattle.kola_load.specs.Ids.{there}
-use Rattle.kola_load.specs.Loading.{first_of, object_fault, objects_fault}
-use Rattle.kola_load.specs.Written.{object_in, extent_of}
+use Rattle.kola_load.specs.Loading.{first_of, object_fault}
+use Rattle.kola_load.specs.Written.{object_in}
 use Rattle.kola_load.proofs.objects.read_class.Given as goal
 
 abbrev pub invariant-loop-element : goal.invariant-loop-element
 invariant-loop-element l =
-    (map object_tree l.objects.items ≡ map (object_in (class_tree l.class)) (take l.element-index (extent_of (view l.value) (class_tree l.class))))
-    × (first_of (object_fault (there l.ids) (class_tree l.class)) (drop l.element-index (extent_of (view l.value) (class_tree l.class)))
-    ≡ objects_fault (there l.ids) (view l.value) (class_tree l.class))
+    (goal.iterator-loop-element).can_next l.element-iterator ×
+    (goal.iterator-loop-element).is_finite l.element-iterator ×
+    (map object_tree l.objects.items ++ map (object_in l.class) (map view (into_iter_items l.element-iterator)) ≡ map (object_in l.class) (map view l.fn.elements.items)) ×
+    (first_of (object_fault (there l.ids) l.class) (map view (into_iter_items l.element-iterator)) ≡ first_of (object_fault (there l.ids) l.class) (map view l.fn.elements.items))

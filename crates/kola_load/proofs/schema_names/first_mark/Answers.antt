@@ -1,15 +1,12 @@
-use Rattle.std.proofs.Common.{[], map, ap, ◌∙◌}
-use Rattle.kola_load.specs.FirstMarks.{names_from, twice}
-use Rattle.kola_load.specs.SchemaViews.{named_view, class_view}
-use Rattle.kola_load.proofs.MarkLoops.{schema_parts, names_seen, extents_seen}
+use Rattle.std.proofs.Common.{[], map, refl}
+use Rattle.kola_load.specs.FirstMarks.{names_from}
+use Rattle.kola_load.specs.SchemaFaults.{class_names}
+use Rattle.kola_load.specs.SchemaViews.{class_view}
+use Rattle.kola_load.proofs.MarkLoops.{schema_parts}
 use Rattle.kola_load.proofs.schema_names.first_mark.Goals as goal
 
 pub returns : goal.returns
 returns c =
-    let listed = ap (map named_view) (c.as_slice.ensures.value ∙ c.in_ok-names.ensures) ∙ names_seen c.args.classes.now in
-    let named = ap (map named_view) (c.as_slice-2.ensures.value ∙ c.in_ok-extents.ensures) ∙ extents_seen c.args.classes.now in
-    schema_parts c.in_ok-known.known (map class_view c.args.classes.now) c.in_ok-known.twice c.in_ok-extent_twice.extent_twice c.in_ok-inside.inside c.earlier.result c.earlier-2.result
-    (c.in_ok-known.ensures.table ∙ ap (names_from []) listed)
-    (c.in_ok-known.ensures.twice ∙ ap twice listed)
-    (c.in_ok-extent_twice.ensures.twice ∙ ap twice named)
-    c.in_ok-inside.ensures c.earlier.ensures c.earlier-2.ensures
+    let cs = map class_view c.args.classes.now in
+    schema_parts (names_from [] (class_names cs)) cs c.in_ok-twice.twice c.in_ok-extent_twice.extent_twice c.in_ok-twice.inside c.earlier.result c.earlier-2.result
+    refl c.in_ok-twice.ensures.twice c.in_ok-extent_twice.ensures c.in_ok-twice.ensures.inside c.earlier.ensures c.earlier-2.ensures

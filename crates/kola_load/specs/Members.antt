@@ -1,0 +1,21 @@
+-- The members of an object as the program holds them, while the elements of extents are taken out of them.
+use Rattle.std.specs.Prelude.{◌≡◌, ℕ, false, List, [], String}
+use Rattle.std.specs.Option.{option_map_or}
+use Rattle.std.specs.Str.{bytes_eq}
+use Rattle.std.specs.declared.alloc.Global.{Global}
+use Rattle.serde_json.specs.Data.{Data}
+use Rattle.serde_json.specs.Find.{get_member}
+use Rattle.serde_json.specs.View.{members_view}
+use Rattle.serde_json.specs.declared.value.Value.{Value}
+use Rattle.kola_load.specs.Json.{elements}
+
+abbrev pub Entries : Type 0
+Entries = List (String Global × Value)
+
+-- the elements of the array at a name
+abbrev pub elements_at : List ℕ → Entries → List Data
+elements_at n es = option_map_or elements (get_member n (members_view es)) []
+
+-- each other name keeps its member
+abbrev pub AreLeft : List ℕ → Entries → Entries → Type 0
+AreLeft n before after = (m : List ℕ) → bytes_eq n m ≡ false → get_member m (members_view after) ≡ get_member m (members_view before)

@@ -55,9 +55,11 @@ fn are_joined(alloc: Global, a: &str, b: &str, wanted: (&str, &str, &str)) -> Re
     let (Some(a), Some(b)) = (set_in(&a), set_in(&b)) else {
         return Ok(false);
     };
-    Ok(is_union(alloc, a, b, wanted.0)?
-        && is_isect(alloc, a, b, wanted.1)?
-        && is_minus(alloc, a, b, wanted.2)?)
+    Ok(
+        is_union(alloc, a, b, wanted.0)?
+            && is_isect(alloc, a, b, wanted.1)?
+            && is_minus(alloc, a, b, wanted.2)?,
+    )
 }
 
 #[test]
@@ -114,7 +116,10 @@ fn sets_of_members(rt: HostRuntime) -> Result<(), Fail> {
     let shown: [(&[i64], &str); 3] = [
         (&[], "{}"),
         (&[3, 1, 3], "{1, 3}"),
-        (&[0, -9223372036854775808, 9223372036854775807], "{-9223372036854775808, 0, 9223372036854775807}"),
+        (
+            &[0, -9223372036854775808, 9223372036854775807],
+            "{-9223372036854775808, 0, 9223372036854775807}",
+        ),
     ];
     for (numbers, text) in shown {
         assert!(rt; is_set_of(rt.alloc(), numbers, text)?, "{text}");
@@ -206,7 +211,13 @@ fn is_encoded(alloc: Global, v: &Value, t: &Ty, text: &str) -> Result<bool, Memo
     is_value(alloc, &e, text)
 }
 
-fn is_decoded(alloc: Global, e: &Value, encodings: &Ty, t: &Ty, text: &str) -> Result<bool, Memory> {
+fn is_decoded(
+    alloc: Global,
+    e: &Value,
+    encodings: &Ty,
+    t: &Ty,
+    text: &str,
+) -> Result<bool, Memory> {
     if !shaped(e, encodings) {
         return Ok(false);
     }

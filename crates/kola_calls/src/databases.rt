@@ -18,8 +18,23 @@ fn members_of(alloc: Global, db: &Db, extent: &str) -> Result<usize, Memory> {
     }
 }
 
-fn shown_fault(alloc: Global, fault: &DbFault) -> Result<String, Memory> {
-    format!(in alloc; "{fault}")
+/// The name of a fault's cause.
+fn cause_of(fault: &DbFault) -> &'static str {
+    match fault {
+        DbFault::NotJson => "NotJson",
+        DbFault::NotObject => "NotObject",
+        DbFault::UnknownExtent { .. } => "UnknownExtent",
+        DbFault::NotAnArray { .. } => "NotAnArray",
+        DbFault::NotAnObject { .. } => "NotAnObject",
+        DbFault::BadId { .. } => "BadId",
+        DbFault::TwiceId { .. } => "TwiceId",
+        DbFault::UnknownAttribute { .. } => "UnknownAttribute",
+        DbFault::MissingAttribute { .. } => "MissingAttribute",
+        DbFault::WrongType { .. } => "WrongType",
+        DbFault::NoSuchObject { .. } => "NoSuchObject",
+        DbFault::KeyRepeats { .. } => "KeyRepeats",
+        DbFault::Memory => "Memory",
+    }
 }
 
 fn shown_db(alloc: Global, db: &Db) -> Result<String, Memory> {
@@ -28,25 +43,22 @@ fn shown_db(alloc: Global, db: &Db) -> Result<String, Memory> {
     format!(in alloc; "{persons} {vehicles}")
 }
 
-/// How many persons and vehicles a text writes, or its fault.
-fn shown(alloc: Global, schema: &Schema, text: &[u8]) -> Result<String, Memory> {
-    match read_db(alloc, schema, text) {
-        Ok(db) => shown_db(alloc, &db),
-        Err(fault) => shown_fault(alloc, &fault),
-    }
-}
-
+/// Whether a text writes so many persons and vehicles, or has a fault of this cause.
 fn is_shown(alloc: Global, text: &[u8], wanted: &str) -> Result<bool, Broken> {
     let schema = schema(alloc)?;
-    let found = shown(alloc, &schema, text)?;
-    Ok(found.as_str() == wanted)
+    match read_db(alloc, &schema, text) {
+        Ok(db) => Ok(shown_db(alloc, &db)?.as_str() == wanted),
+        Err(fault) => Ok(cause_of(&fault) == wanted),
+    }
 }
 
 const VEHICLES: &str = r##""Vehicles":[{"#":1,"year":1990},{"#":2,"year":2001}]"##;
 
 /// Two persons, with the second's ssn and cars, and two vehicles.
 fn sample(alloc: Global, ssn: &str, cars: &str) -> Result<String, Memory> {
-    format!(in alloc; r##"{{"Persons":[{{"#":1,"ssn":"a","first":"Ann","last":"Lee","cars":[1]}},{{"#":2,"ssn":"{ssn}","first":"Bob","last":"Lee","cars":{cars}}}],{VEHICLES}}}"##)
+    format!(in alloc;
+        r##"{{"Persons":[{{"#":1,"ssn":"a","first":"Ann","last":"Lee","cars":[1]}},{{"#":2,"ssn":"{ssn}","first":"Bob","last":"Lee","cars":{cars}}}],{VEHICLES}}}"##
+    )
 }
 
 fn is_sample_shown(alloc: Global, ssn: &str, cars: &str, wanted: &str) -> Result<bool, Broken> {
@@ -58,11 +70,11 @@ fn is_sample_shown(alloc: Global, ssn: &str, cars: &str, wanted: &str) -> Result
 fn persons_with_cars(rt: HostRuntime) -> Result<(), Fail> {
     for (ssn, cars, wanted) in [
         ("b", "[1,1]", "2 2"),
-        ("a", "[1,1]", "KeyRepeats Person 1 1 2"),
+        ("a", "[1,1]", "KeyRepeats"),
         ("b", "[1,2,1,2,1,2,1,2,2,2,2,1]", "2 2"),
         ("b", "[]", "2 2"),
-        ("b", "[7]", "NoSuchObject Person 2 cars 7"),
-        ("b", "[7,null]", "WrongType Person 2 cars"),
+        ("b", "[7]", "NoSuchObject"),
+        ("b", "[7,null]", "WrongType"),
         (r"\ud800", "[]", "NotJson"),
     ] {
         assert!(rt; is_sample_shown(rt.alloc(), ssn, cars, wanted)?, "{wanted}");
@@ -78,30 +90,27 @@ fn texts_of_databases(rt: HostRuntime) -> Result<(), Fail> {
         ("{}", "0 0"),
         ("{", "NotJson"),
         ("[]", "NotObject"),
-        (
-            r##"{"Wheels":[],"Boats":[],"Persons":7}"##,
-            "UnknownExtent Boats",
-        ),
-        (
-            r##"{"Persons":[{"#":1}],"Vehicles":{}}"##,
-            "NotAnArray Vehicles",
-        ),
-        (r##"{"Vehicles":[{"#":1},2]}"##, "NotAnObject Vehicles 1"),
-        (r##"{"Vehicles":[{"#":1},{"#":0}]}"##, "BadId Vehicles 1"),
+        (r##"{"Wheels":[],"Boats":[],"Persons":7}"##, "UnknownExtent"),
+        (r##"{"Persons":[{"#":1}],"Vehicles":{}}"##, "NotAnArray"),
+        (r##"{"Vehicles":[{"#":1},2]}"##, "NotAnObject"),
+        (r##"{"Vehicles":[{"#":1},{"#":0}]}"##, "BadId"),
         (r##"{"Vehicles":[{"#":4294967295,"year":1}]}"##, "0 1"),
-        (r##"{"Vehicles":[{"#":4294967296,"year":1}]}"##, "BadId Vehicles 0"),
-        (r##"{"Vehicles":[{"#":1},{"#":1}]}"##, "TwiceId Vehicles 1"),
+        (r##"{"Vehicles":[{"#":4294967296,"year":1}]}"##, "BadId"),
+        (r##"{"Vehicles":[{"#":1},{"#":1}]}"##, "TwiceId"),
         (
             r##"{"Vehicles":[{"#":3,"wheels":4,"doors":2}]}"##,
-            "UnknownAttribute Vehicle 3 doors",
+            "UnknownAttribute",
+        ),
+        (r##"{"Vehicles":[{"#":3}]}"##, "MissingAttribute"),
+        (r##"{"Vehicles":[{"#":3,"year":1.5}]}"##, "WrongType"),
+        (
+            r##"{"Vehicles":[{"#":3,"year":-9223372036854775808}]}"##,
+            "0 1",
         ),
         (
-            r##"{"Vehicles":[{"#":3}]}"##,
-            "MissingAttribute Vehicle 3 year",
+            r##"{"Vehicles":[{"#":3,"year":9223372036854775808}]}"##,
+            "WrongType",
         ),
-        (r##"{"Vehicles":[{"#":3,"year":1.5}]}"##, "WrongType Vehicle 3 year"),
-        (r##"{"Vehicles":[{"#":3,"year":-9223372036854775808}]}"##, "0 1"),
-        (r##"{"Vehicles":[{"#":3,"year":9223372036854775808}]}"##, "WrongType Vehicle 3 year"),
     ] {
         assert!(rt; is_shown(rt.alloc(), text.as_bytes(), wanted)?, "{text}");
     }
@@ -120,7 +129,14 @@ fn is_value(alloc: Global, found: Option<&Value>, text: &str) -> Result<bool, Me
 }
 
 /// Whether the object is there with the attribute's value; the empty text stands for none.
-fn has_value(alloc: Global, db: &Db, class: &str, id: u32, a: &str, text: &str) -> Result<bool, Memory> {
+fn has_value(
+    alloc: Global,
+    db: &Db,
+    class: &str,
+    id: u32,
+    a: &str,
+    text: &str,
+) -> Result<bool, Memory> {
     let class = Name::from_text(alloc, class)?;
     let a = Name::from_text(alloc, a)?;
     is_value(alloc, db.attribute(&class, id, &a), text)
@@ -154,7 +170,10 @@ fn values_of_attributes(rt: HostRuntime) -> Result<(), Fail> {
         ("Person", 2, "cars", "{Vehicle#1, Vehicle#2}"),
         ("Person", 2, "first", "\"Bob\""),
     ] {
-        assert!(rt; is_attribute(rt.alloc(), class, id, a, text)?, "{class} {id} {a}");
+        assert!(rt;
+            is_attribute(rt.alloc(), class, id, a, text)?,
+            "{class} {id} {a}"
+        );
     }
     Ok(())
 }
@@ -181,7 +200,13 @@ fn object(alloc: Global, class: &str, id: u32, values: ValueFields) -> Result<Ob
 }
 
 /// The person with the ssn and the first name, whose one car is the object of the class and the id.
-fn person(alloc: Global, id: u32, texts: (&str, &str), class: &str, car: u32) -> Result<ObjectDef, Memory> {
+fn person(
+    alloc: Global,
+    id: u32,
+    texts: (&str, &str),
+    class: &str,
+    car: u32,
+) -> Result<ObjectDef, Memory> {
     let mut values = ValueFields::new(alloc);
     push_string(&mut values, alloc, "ssn", texts.0)?;
     push_string(&mut values, alloc, "last", "Lee")?;
@@ -198,7 +223,13 @@ fn vehicle(alloc: Global, id: u32, year: i64) -> Result<ObjectDef, Memory> {
 }
 
 /// Two vehicles, Ann Lee, and the person.
-fn objects(alloc: Global, id: u32, texts: (&str, &str), class: &str, car: u32) -> Result<Vec<ObjectDef>, Memory> {
+fn objects(
+    alloc: Global,
+    id: u32,
+    texts: (&str, &str),
+    class: &str,
+    car: u32,
+) -> Result<Vec<ObjectDef>, Memory> {
     let mut objects = Vec::new(alloc);
     objects.push(vehicle(alloc, 2, 2001)?)?;
     objects.push(person(alloc, 1, ("a", "Ann"), "Vehicle", 2)?)?;
@@ -217,7 +248,13 @@ fn make(alloc: Global, schema: &Schema, objects: Vec<ObjectDef>) -> Option<bool>
 }
 
 /// Whether the objects are accepted by the test, and whether they make a database.
-fn verdicts(alloc: Global, id: u32, texts: (&str, &str), class: &str, car: u32) -> Result<(bool, Option<bool>), Broken> {
+fn verdicts(
+    alloc: Global,
+    id: u32,
+    texts: (&str, &str),
+    class: &str,
+    car: u32,
+) -> Result<(bool, Option<bool>), Broken> {
     let schema = schema(alloc)?;
     let objects = objects(alloc, id, texts, class, car)?;
     let accepted = objects_ok(&schema, objects.as_slice());
@@ -238,7 +275,10 @@ fn objects_meet_the_schema(rt: HostRuntime) -> Result<(), Fail> {
         (1, ("b", "Bob"), "Vehicle", 1, false),
         (0, ("b", "Bob"), "Vehicle", 1, false),
     ] {
-        assert_eq!(rt; verdicts(rt.alloc(), id, texts, class, car)?, (wanted, Some(wanted)));
+        assert_eq!(rt;
+            verdicts(rt.alloc(), id, texts, class, car)?,
+            (wanted, Some(wanted))
+        );
     }
     Ok(())
 }

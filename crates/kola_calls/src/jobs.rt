@@ -1,7 +1,7 @@
 //! Whole jobs: that memory is found, the bytes that are written, and that no failure is tried again.
 
-use kola_top::{Status, run_kola};
 use kola_base::{MemSink, MemSource, SteadySource};
+use kola_top::{Status, run_kola};
 use std::alloc::{AllocError, Global};
 use std::test::Fail;
 

@@ -83,7 +83,11 @@ fn first_faults(rt: HostRuntime) -> Result<(), Fail> {
             SchemaWhy::UnknownKeyAttribute,
         ),
     ] {
-        assert_eq!(rt; fault_of(rt.alloc(), text.as_bytes()), Some((at, why)), "{text}");
+        assert_eq!(rt;
+            fault_of(rt.alloc(), text.as_bytes()),
+            Some((at, why)),
+            "{text}"
+        );
     }
     Ok(())
 }
@@ -112,7 +116,10 @@ fn fault_of_nested(alloc: Global, sets: usize) -> Result<Option<(usize, SchemaWh
 fn at_most_100_sets(rt: HostRuntime) -> Result<(), Fail> {
     assert_eq!(rt; fault_of_nested(rt.alloc(), 100)?, None);
     let at_the_next = 31 + 4 * 100;
-    assert_eq!(rt; fault_of_nested(rt.alloc(), 101)?, Some((at_the_next, SchemaWhy::TooDeep)));
+    assert_eq!(rt;
+        fault_of_nested(rt.alloc(), 101)?,
+        Some((at_the_next, SchemaWhy::TooDeep))
+    );
     Ok(())
 }
 
@@ -155,7 +162,13 @@ fn is_type(alloc: Global, found: Option<&Ty>, text: &str) -> Result<bool, Memory
 }
 
 /// Whether the class has the attribute with the type of the text; the empty text stands for no such attribute.
-fn has_attribute(alloc: Global, schema: &Schema, class: &str, a: &str, text: &str) -> Result<bool, Memory> {
+fn has_attribute(
+    alloc: Global,
+    schema: &Schema,
+    class: &str,
+    a: &str,
+    text: &str,
+) -> Result<bool, Memory> {
     let class = Name::from_text(alloc, class)?;
     let a = Name::from_text(alloc, a)?;
     is_type(alloc, schema.attribute(&class, &a), text)

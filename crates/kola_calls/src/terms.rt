@@ -2,7 +2,9 @@
 
 use crate::samples::{Broken, boxed, is_printed, path, term};
 use kola_core::{Memory, Path};
-use kola_term::{Const, Fun, PlaceFault, Pred, SubTerm, Term, depth, make, nodes, replace_at, sub_at};
+use kola_term::{
+    Const, Fun, PlaceFault, Pred, SubTerm, Term, depth, make, nodes, replace_at, sub_at,
+};
 use std::alloc::Global;
 use std::test::Fail;
 
@@ -123,7 +125,13 @@ fn nodes_and_depths(rt: HostRuntime) -> Result<(), Fail> {
 }
 
 /// Whether the answer for a term with another part at a path is the text of a term, or the name of a refusal.
-fn is_replacement(alloc: Global, t: &Term, at: &Path, new: &Term, wanted: &str) -> Result<bool, Memory> {
+fn is_replacement(
+    alloc: Global,
+    t: &Term,
+    at: &Path,
+    new: &Term,
+    wanted: &str,
+) -> Result<bool, Memory> {
     match replace_at(alloc, t, at, new) {
         Ok(replaced) => {
             let replaced = boxed(alloc, replaced)?;
@@ -135,7 +143,13 @@ fn is_replacement(alloc: Global, t: &Term, at: &Path, new: &Term, wanted: &str) 
     }
 }
 
-fn is_replaced(alloc: Global, text: &str, at: &[u8], new: &str, wanted: &str) -> Result<bool, Broken> {
+fn is_replaced(
+    alloc: Global,
+    text: &str,
+    at: &[u8],
+    new: &str,
+    wanted: &str,
+) -> Result<bool, Broken> {
     let t = term(alloc, text)?;
     let at = path(alloc, at)?;
     let new = term(alloc, new)?;
@@ -157,15 +171,28 @@ fn parts_are_replaced(rt: HostRuntime) -> Result<(), Fail> {
         ("C(fst, 1)", &[2], "2", "C(fst, 2)"),
         ("if(eq, fst, snd)", &[3], "id", "if(eq, fst, id)"),
         ("if(~eq, fst, snd)", &[1, 1], "lt", "if(~lt, fst, snd)"),
-        ("iter((p & CP(lt, 1)), f)", &[1, 2, 2], "Persons", "iter((p & CP(lt, Persons)), f)"),
+        (
+            "iter((p & CP(lt, 1)), f)",
+            &[1, 2, 2],
+            "Persons",
+            "iter((p & CP(lt, Persons)), f)",
+        ),
         ("(eq @ id)", &[2], "fst", "(eq @ fst)"),
-        ("inv((le | in))", &[1, 2], "KP(true)", "inv((le | KP(true)))"),
+        (
+            "inv((le | in))",
+            &[1, 2],
+            "KP(true)",
+            "inv((le | KP(true)))",
+        ),
         ("~ex(eq)", &[1, 1], "lt", "~ex(lt)"),
         ("1", &[], "true", "true"),
         ("1", &[], "id", "WrongKind"),
     ];
     for (text, at, new, wanted) in shown {
-        assert!(rt; is_replaced(rt.alloc(), text, at, new, wanted)?, "{text} {wanted}");
+        assert!(rt;
+            is_replaced(rt.alloc(), text, at, new, wanted)?,
+            "{text} {wanted}"
+        );
     }
     Ok(())
 }

@@ -95,7 +95,12 @@ fn terms_are_at_most_256_deep(rt: HostRuntime) -> Result<(), Fail> {
 }
 
 /// The term that is read from a token of a text on, and the number of the token behind it; `pattern` says whether it is a pattern.
-fn part_of(alloc: Global, text: &str, from: usize, pattern: bool) -> Result<Option<(Box<Term>, usize)>, Broken> {
+fn part_of(
+    alloc: Global,
+    text: &str,
+    from: usize,
+    pattern: bool,
+) -> Result<Option<(Box<Term>, usize)>, Broken> {
     let vars = Items::new(alloc);
     let Ok(toks) = tokens(alloc, text.as_bytes()) else {
         return Ok(None);
@@ -112,7 +117,14 @@ fn part_of(alloc: Global, text: &str, from: usize, pattern: bool) -> Result<Opti
     Ok(Some((term, next)))
 }
 
-fn is_part(alloc: Global, text: &str, from: usize, pattern: bool, spelling: &str, behind: usize) -> Result<bool, Broken> {
+fn is_part(
+    alloc: Global,
+    text: &str,
+    from: usize,
+    pattern: bool,
+    spelling: &str,
+    behind: usize,
+) -> Result<bool, Broken> {
     match part_of(alloc, text, from, pattern)? {
         Some((term, next)) => Ok(is_printed(alloc, &term, spelling)? && next == behind),
         None => Ok(false),
@@ -127,7 +139,10 @@ fn parts_are_read_up_to_the_token_behind(rt: HostRuntime) -> Result<(), Fail> {
         ("GIVEN (F o<id,X>) DO", 1, true, "(F o <id, X>)", 10),
         ("(P&Q)", 0, true, "(P & Q)", 5),
     ] {
-        assert!(rt; is_part(rt.alloc(), text, from, pattern, spelling, behind)?, "{text}");
+        assert!(rt;
+            is_part(rt.alloc(), text, from, pattern, spelling, behind)?,
+            "{text}"
+        );
     }
     Ok(())
 }

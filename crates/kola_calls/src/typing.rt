@@ -35,19 +35,37 @@ fn has_type(alloc: Global, schema: &Schema, t: &Term, text: &str) -> Result<bool
     }
 }
 
-fn fun_has_type(alloc: Global, schema: &Schema, ctx: &MetaCtx, f: &Fun, text: &str) -> Result<bool, Memory> {
+fn fun_has_type(
+    alloc: Global,
+    schema: &Schema,
+    ctx: &MetaCtx,
+    f: &Fun,
+    text: &str,
+) -> Result<bool, Memory> {
     let found = out_type_without_limit(alloc, schema, ctx, f, &Ty::Unit)?;
     let limited = out_type(alloc, schema, ctx, f, &Ty::Unit).ok();
     Ok(is_answer(alloc, found.as_ref(), text)? && is_answer(alloc, limited.as_ref(), text)?)
 }
 
-fn pred_has_type(alloc: Global, schema: &Schema, ctx: &MetaCtx, p: &Pred, text: &str) -> Result<bool, Memory> {
+fn pred_has_type(
+    alloc: Global,
+    schema: &Schema,
+    ctx: &MetaCtx,
+    p: &Pred,
+    text: &str,
+) -> Result<bool, Memory> {
     let found = pred_ok_without_limit(alloc, schema, ctx, p, &Ty::Unit)?;
     let limited = pred_ok(alloc, schema, ctx, p, &Ty::Unit).is_ok();
     Ok(found == limited && found == (text == "bool"))
 }
 
-fn const_has_type(alloc: Global, schema: &Schema, ctx: &MetaCtx, c: &Const, text: &str) -> Result<bool, Memory> {
+fn const_has_type(
+    alloc: Global,
+    schema: &Schema,
+    ctx: &MetaCtx,
+    c: &Const,
+    text: &str,
+) -> Result<bool, Memory> {
     let found = const_type(alloc, schema, ctx, c)?;
     is_answer(alloc, found.as_ref(), text)
 }
@@ -65,8 +83,14 @@ fn output_types(rt: HostRuntime) -> Result<(), Fail> {
         ("<K(1), <K(true), K(\"a\")>>", "(int, (bool, string))"),
         ("(fst o <K(1), K(true)>)", "int"),
         ("K({1, 2})", "set<int>"),
-        ("(iter(KP(true), (.cars o snd)) o <id, K(Persons)>)", "set<set<Vehicle>>"),
-        ("(unnest(.ssn, .cars) o K(Persons))", "set<(string, Vehicle)>"),
+        (
+            "(iter(KP(true), (.cars o snd)) o <id, K(Persons)>)",
+            "set<set<Vehicle>>",
+        ),
+        (
+            "(unnest(.ssn, .cars) o K(Persons))",
+            "set<(string, Vehicle)>",
+        ),
         ("(nest(fst, snd) o <K({1}), K({1})>)", ""),
         ("(nest(id, id) o <K({1}), K({1})>)", "set<(int, set<int>)>"),
         ("if((lt @ <K(1), K(2)>), K(1), K(3))", "int"),
@@ -95,7 +119,13 @@ fn is_fault(found: &TypeFault, place: &[u8], cause: TypeWhy) -> bool {
 }
 
 /// Whether the fault is told at `unit`, and the call without limit has no type.
-fn has_fault(alloc: Global, schema: &Schema, t: &Term, place: &[u8], cause: TypeWhy) -> Result<bool, Memory> {
+fn has_fault(
+    alloc: Global,
+    schema: &Schema,
+    t: &Term,
+    place: &[u8],
+    cause: TypeWhy,
+) -> Result<bool, Memory> {
     let ctx = MetaCtx::new(alloc);
     match t {
         Term::F(f) => fun_has_fault(alloc, schema, &ctx, f, place, cause),
@@ -150,14 +180,26 @@ fn first_faults(rt: HostRuntime) -> Result<(), Fail> {
         ("fst", &[], TypeWhy::NotThisInput),
         ("(fst o K(1))", &[1], TypeWhy::NotThisInput),
         ("(K(Boats) o fst)", &[2], TypeWhy::NotThisInput),
-        ("(iterate((lt @ flat), fst) o K({1}))", &[1, 1, 2], TypeWhy::NotThisInput),
-        ("(iterate(KP(true), .age) o K(Persons))", &[1, 2], TypeWhy::NoAttribute),
+        (
+            "(iterate((lt @ flat), fst) o K({1}))",
+            &[1, 1, 2],
+            TypeWhy::NotThisInput,
+        ),
+        (
+            "(iterate(KP(true), .age) o K(Persons))",
+            &[1, 2],
+            TypeWhy::NoAttribute,
+        ),
         ("C(flat, Boats)", &[2], TypeWhy::NoExtent),
         ("<id, f>", &[2], TypeWhy::WrongVariable),
         ("K(c)", &[1], TypeWhy::WrongVariable),
         ("if(KP(true), K(1), K(true))", &[], TypeWhy::OutputsDiffer),
         ("(unnest(id, id) o K({1}))", &[1], TypeWhy::OutputsDiffer),
-        ("(nest(id, id) o <K({1}), K({true})>)", &[1], TypeWhy::OutputsDiffer),
+        (
+            "(nest(id, id) o <K({1}), K({true})>)",
+            &[1],
+            TypeWhy::OutputsDiffer,
+        ),
         ("(p & eq)", &[1], TypeWhy::WrongVariable),
         ("CP(eq, Boats)", &[2], TypeWhy::NoExtent),
         ("ex(eq)", &[], TypeWhy::NotThisInput),
@@ -213,7 +255,13 @@ fn the_limit_on_types(rt: HostRuntime) -> Result<(), Fail> {
 }
 
 /// Whether the input type of the part at a path is the text's; the empty text stands for a refusal, or a term with no type.
-fn has_input(alloc: Global, schema: &Schema, t: &Term, at: &Path, wanted: &str) -> Result<bool, Memory> {
+fn has_input(
+    alloc: Global,
+    schema: &Schema,
+    t: &Term,
+    at: &Path,
+    wanted: &str,
+) -> Result<bool, Memory> {
     let ctx = MetaCtx::new(alloc);
     let Term::F(f) = t else {
         return Ok(false);
@@ -240,10 +288,22 @@ fn input_types(rt: HostRuntime) -> Result<(), Fail> {
         ("(fst o <K(1), K(true)>)", &[2, 1], "unit"),
         ("(fst o <K(1), K(true)>)", &[3], ""),
         ("(fst o <K(1), K(true)>)", &[2, 1, 1], ""),
-        ("(iterate(ex(eq), snd) o (join(KP(true), id) o <K({1}), <K({1}), K({1})>>))", &[1], ""),
-        ("(iterate((eq @ <id, id>), id) o K({1}))", &[1, 1, 1], "(int, int)"),
+        (
+            "(iterate(ex(eq), snd) o (join(KP(true), id) o <K({1}), <K({1}), K({1})>>))",
+            &[1],
+            "",
+        ),
+        (
+            "(iterate((eq @ <id, id>), id) o K({1}))",
+            &[1, 1, 1],
+            "(int, int)",
+        ),
         ("(C(<snd, fst>, 1) o K(true))", &[1, 1], "(int, bool)"),
-        ("(if((inv(in) @ <K({1}), id>), id, id) o K(1))", &[1, 1, 1, 1], "(int, set<int>)"),
+        (
+            "(if((inv(in) @ <K({1}), id>), id, id) o K(1))",
+            &[1, 1, 1, 1],
+            "(int, set<int>)",
+        ),
     ];
     for (text, at, wanted) in shown {
         assert!(rt; is_input(rt.alloc(), text, at, wanted)?, "{text} {wanted}");

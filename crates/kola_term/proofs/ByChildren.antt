@@ -79,3 +79,5 @@ pub three_depth : (t a b c : TermTree) → a ∷ b ∷ c ∷ [] ≡ children t �
 three_depth t a b c e =
     let h : depth t ≡ 1 + max (depth a) (max (depth b) (max (depth c) 0)) = depth_by_children t ∙ ap (λ cs. 1 + deepest cs) (sym e) in
     omega (arith, h)
+
+pub ruleset by_children = (leaf_nodes, one_nodes, two_nodes, three_nodes, leaf_depth, one_depth, two_depth, three_depth)

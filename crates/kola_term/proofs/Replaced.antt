@@ -60,6 +60,8 @@ not_of_three a b c (suc (suc zero)) q h k l = absurd (k refl)
 not_of_three a b c (suc (suc (suc zero))) q h k l = absurd (l refl)
 not_of_three a b c (suc (suc (suc (suc n)))) q h k l = refl
 
+pub ruleset numbered = (first, second, third, not_of_one, not_of_two, not_of_three)
+
 -- ---- the whole term
 
 whole_put : (t r b : TermTree) → SameKind t r → b ≡ r → PutAt t [] r b

@@ -16,3 +16,4 @@ pub mod Parts
 pub mod PlaceAnswers
 pub mod Replacing
 pub mod Inputs
+pub mod JudgeView

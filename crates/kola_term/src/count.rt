@@ -8,7 +8,7 @@ ghost use Rattle.kola_term.specs.TermView.{fun_tree, pred_tree, term_tree};
 use crate::part::{Children, SubTerm};
 use crate::term::{Fun, Pred, Term};
 
-#[tactic(auto, using(crate::proofs::ByChildren::leaf_nodes, crate::proofs::ByChildren::one_nodes, crate::proofs::ByChildren::two_nodes, crate::proofs::ByChildren::three_nodes))]
+#[tactic(auto, using(crate::proofs::ByChildren::by_children))]
 fn part_nodes(part: SubTerm) -> u64
     ensures { result ≡ min (nodes (sub_tree part.entry)) (2 ^ 64 - 1) }
 {
@@ -25,7 +25,7 @@ fn part_nodes(part: SubTerm) -> u64
     }
 }
 
-#[tactic(auto, using(crate::proofs::ByChildren::leaf_depth, crate::proofs::ByChildren::one_depth, crate::proofs::ByChildren::two_depth, crate::proofs::ByChildren::three_depth, crate::proofs::ByChildren::one_nodes, crate::proofs::ByChildren::two_nodes, crate::proofs::ByChildren::three_nodes))]
+#[tactic(auto, using(crate::proofs::ByChildren::by_children))]
 fn part_depth(part: SubTerm) -> u64
     ensures { result ≡ min (depth (sub_tree part.entry)) (2 ^ 64 - 1) }
 {

@@ -3,15 +3,14 @@
 ghost use Rattle.std.specs.Prelude.{◌≡◌, [], IfOk, Some};
 ghost use Rattle.std.specs.Option.{option_map};
 ghost use Rattle.kola_values.specs.Types.{TBool, TSet, TPair};
-ghost use Rattle.kola_values.specs.Databases.{look_up};
 ghost use Rattle.kola_values.specs.Views.{type_tree};
 ghost use Rattle.kola_schema.specs.SchemaViews.{type_at};
 ghost use Rattle.kola_term.specs.Terms.{CInt, CSet, CExtent};
 ghost use Rattle.kola_term.specs.Typing.{attr_at, fun_of};
 ghost use Rattle.kola_term.specs.Faults.{NotThisInput, lacks, attr_own, fun_own, pred_own};
-ghost use Rattle.kola_term.specs.Judging.{under, and_then, kid, given, refused, leaf, no_size, sized, set_out, consting};
+ghost use Rattle.kola_term.specs.Judging.{under, and_then, kid, given, refused, leaf, no_size, set_out, consting};
+ghost use Rattle.kola_term.specs.JudgeView.{sized_by, constant_by, declared_by};
 ghost use Rattle.kola_term.specs.TermView.{const_tree};
-ghost use Rattle.kola_term.specs.ContextView.{context_of};
 ghost use Rattle.kola_term.specs.TypingAnswers.{why_tree, IsFault, IsTyping, IsCheck};
 
 use crate::constant::{Const, LitSet};
@@ -57,7 +56,7 @@ impl Judge<'_> {
 
     /// A copy of an output type, which is counted first.
     pub(crate) fn copied(&self, t: &Ty) -> Result<Ty, TypeFault>
-        ensures { IsTyping result (sized self.now.limited (type_tree t.now)) }
+        ensures { IsTyping result (sized_by self.now (type_tree t.now)) }
     {
         if self.limited && !is_small(t) {
             return Err(self.fault(TypeWhy::TypeTooLarge));
@@ -68,7 +67,7 @@ impl Judge<'_> {
 
     /// The type of sets as an output.
     pub(crate) fn set(&self, t: Ty) -> Result<Ty, TypeFault>
-        ensures { IsTyping result (sized self.now.limited (TSet (type_tree t))) }
+        ensures { IsTyping result (sized_by self.now (TSet (type_tree t))) }
     {
         if self.limited && !is_small_set(&t) {
             return Err(self.fault(TypeWhy::TypeTooLarge));
@@ -79,7 +78,7 @@ impl Judge<'_> {
 
     /// The type of pairs as an output.
     pub(crate) fn pair(&self, t: Ty, u: Ty) -> Result<Ty, TypeFault>
-        ensures { IsTyping result (sized self.now.limited (TPair (type_tree t) (type_tree u))) }
+        ensures { IsTyping result (sized_by self.now (TPair (type_tree t) (type_tree u))) }
     {
         if self.limited && !is_small_pair(&t, &u) {
             return Err(self.fault(TypeWhy::TypeTooLarge));
@@ -90,7 +89,7 @@ impl Judge<'_> {
 
     /// The output of `nest`.
     pub(crate) fn nested(&self, t: Ty, u: Ty) -> Result<Ty, TypeFault>
-        ensures { IsTyping result (sized self.now.limited (TSet (TPair (type_tree t) (TSet (type_tree u))))) }
+        ensures { IsTyping result (sized_by self.now (TSet (TPair (type_tree t) (TSet (type_tree u))))) }
     {
         if self.limited && !is_small_nest(&t, &u) {
             return Err(self.fault(TypeWhy::TypeTooLarge));
@@ -103,7 +102,7 @@ impl Judge<'_> {
 
     /// The output of `unnest`, whose second function must give a set.
     pub(crate) fn unnested(&self, t: Ty, u: Ty) -> Result<Ty, TypeFault>
-        ensures { IsTyping result (set_out (type_tree u) (λ z. sized self.now.limited (TSet (TPair (type_tree t) z)))) }
+        ensures { IsTyping result (set_out (type_tree u) (λ z. sized_by self.now (TSet (TPair (type_tree t) z)))) }
     {
         let Ty::Set(member) = u else {
             return Err(self.fault(TypeWhy::OutputsDiffer));
@@ -119,7 +118,7 @@ impl Judge<'_> {
 
     /// The output of a function that takes a part of its input.
     pub(crate) fn part(&self, part: Option<&Ty>) -> Result<Ty, TypeFault>
-        ensures { IsTyping result (and_then (given (option_map type_at part.entry)) (sized self.now.limited)) }
+        ensures { IsTyping result (and_then (given (option_map type_at part.entry)) (sized_by self.now)) }
     {
         match part {
             Some(t) => self.copied(t),
@@ -148,7 +147,8 @@ impl Judge<'_> {
     }
 
     pub(crate) fn attribute(&self, a: &Name, t: &Ty) -> Result<Ty, TypeFault>
-        ensures { IsTyping result (leaf self.now.limited (attr_own self.now.schema.now a.now (type_tree t.now)) (attr_at self.now.schema.now a.now (type_tree t.now))) }
+        ensures { IsTyping result (leaf self.now.limited (attr_own self.now.schema.now a.now (type_tree t.now))
+            (attr_at self.now.schema.now a.now (type_tree t.now))) }
     {
         let Ty::Class(class) = t else {
             return Err(self.fault(TypeWhy::NotThisInput));
@@ -160,7 +160,8 @@ impl Judge<'_> {
     }
 
     pub(crate) fn fun_variable(&self, name: &Name, t: &Ty) -> Result<Ty, TypeFault>
-        ensures { IsTyping result (leaf self.now.limited (fun_own (look_up name.now (context_of self.now.ctx.now)) (type_tree t.now)) (fun_of (look_up name.now (context_of self.now.ctx.now)) (type_tree t.now))) }
+        ensures { IsTyping result (leaf self.now.limited (fun_own (declared_by self.now name.now) (type_tree t.now))
+            (fun_of (declared_by self.now name.now) (type_tree t.now))) }
     {
         match declared(self.ctx, name) {
             Some(MetaTy::Fun(input, output)) => {
@@ -175,7 +176,7 @@ impl Judge<'_> {
     }
 
     pub(crate) fn pred_variable(&self, name: &Name, t: &Ty) -> Result<(), TypeFault>
-        ensures { IsCheck result (no_size (pred_own (look_up name.now (context_of self.now.ctx.now)) (type_tree t.now)) (Some TBool)) }
+        ensures { IsCheck result (no_size (pred_own (declared_by self.now name.now) (type_tree t.now)) (Some TBool)) }
     {
         match declared(self.ctx, name) {
             Some(MetaTy::Pred(input)) => {
@@ -202,7 +203,7 @@ impl Judge<'_> {
 
     /// The type of a constant.
     pub(crate) fn constant(&self, c: &Const) -> Result<Ty, TypeFault>
-        ensures { IsTyping result (consting self.now.schema.now (context_of self.now.ctx.now) (const_tree c.now)) }
+        ensures { IsTyping result (constant_by self.now (const_tree c.now)) }
     {
         match c {
             Const::Int(n) => int_type(*n),
@@ -219,7 +220,7 @@ impl Judge<'_> {
 
     /// The same of the child with the number.
     pub(crate) fn const_under(&self, child: u8, c: &Const) -> Result<Ty, TypeFault>
-        ensures { IsTyping result (under child (consting self.now.schema.now (context_of self.now.ctx.now) (const_tree c.now))) }
+        ensures { IsTyping result (under child (constant_by self.now (const_tree c.now))) }
     {
         match self.constant(c) {
             Ok(u) => Ok(u),
@@ -233,7 +234,7 @@ impl Judge<'_> {
 
     /// The output of `K`. The type of a variable is counted before it is copied.
     pub(crate) fn constant_output(&self, c: &Const) -> Result<Ty, TypeFault>
-        ensures { IsTyping result (kid 1 (consting self.now.schema.now (context_of self.now.ctx.now) (const_tree c.now)) (sized self.now.limited)) }
+        ensures { IsTyping result (kid 1 (constant_by self.now (const_tree c.now)) (sized_by self.now)) }
     {
         if let Const::Meta(name) = c {
             if let Some(MetaTy::Const(t)) = declared(self.ctx, name) {

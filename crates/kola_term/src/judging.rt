@@ -4,9 +4,9 @@ ghost use Rattle.std.specs.Prelude.{◌≡◌};
 ghost use Rattle.kola_values.specs.Types.{TSet};
 ghost use Rattle.kola_values.specs.Views.{type_tree};
 ghost use Rattle.kola_term.specs.Terms.{FComp, FPair, FTimes, FC, FIf, FIterate, FIter, FJoin, FNest, FUnnest, PAt, PAnd, PInv, PCP, PEx};
-ghost use Rattle.kola_term.specs.Judging.{under, kid, sized, typing, checking};
+ghost use Rattle.kola_term.specs.Judging.{under, kid};
+ghost use Rattle.kola_term.specs.JudgeView.{sized_by, typed_by, checked_by};
 ghost use Rattle.kola_term.specs.TermView.{const_tree, fun_tree, pred_tree};
-ghost use Rattle.kola_term.specs.ContextView.{context_of};
 ghost use Rattle.kola_term.specs.TypingAnswers.{IsTyping, IsCheck};
 
 use crate::constant::Const;
@@ -23,7 +23,7 @@ impl Judge<'_> {
     /// The output type of a function at an input type, or its first fault.
     #[cycle(typing)]
     pub(crate) fn fun(&self, f: &Fun, t: &Ty) -> Result<Ty, TypeFault>
-        ensures { IsTyping result (typing self.now.schema.now (context_of self.now.ctx.now) self.now.limited (fun_tree f.now) (type_tree t.now)) }
+        ensures { IsTyping result (typed_by self.now (fun_tree f.now) (type_tree t.now)) }
     {
         match f {
             Fun::Id => self.copied(t),
@@ -50,7 +50,7 @@ impl Judge<'_> {
     /// Whether a predicate is typed at an input type, or its first fault.
     #[cycle(typing)]
     pub(crate) fn pred(&self, p: &Pred, t: &Ty) -> Result<(), TypeFault>
-        ensures { IsCheck result (checking self.now.schema.now (context_of self.now.ctx.now) self.now.limited (pred_tree p.now) (type_tree t.now)) }
+        ensures { IsCheck result (checked_by self.now (pred_tree p.now) (type_tree t.now)) }
     {
         match p {
             Pred::Eq | Pred::Lt | Pred::Le => self.wanted(twin(t)),
@@ -69,7 +69,7 @@ impl Judge<'_> {
 
     #[cycle(typing)]
     fn comp(&self, f: &Fun, g: &Fun, t: &Ty) -> Result<Ty, TypeFault>
-        ensures { IsTyping result (typing self.now.schema.now (context_of self.now.ctx.now) self.now.limited (FComp (fun_tree f.now) (fun_tree g.now)) (type_tree t.now)) }
+        ensures { IsTyping result (typed_by self.now (FComp (fun_tree f.now) (fun_tree g.now)) (type_tree t.now)) }
     {
         let between = self.fun_under(2, g, t)?;
         self.fun_under(1, f, &between)
@@ -77,7 +77,7 @@ impl Judge<'_> {
 
     #[cycle(typing)]
     fn pair_of(&self, f: &Fun, g: &Fun, t: &Ty) -> Result<Ty, TypeFault>
-        ensures { IsTyping result (typing self.now.schema.now (context_of self.now.ctx.now) self.now.limited (FPair (fun_tree f.now) (fun_tree g.now)) (type_tree t.now)) }
+        ensures { IsTyping result (typed_by self.now (FPair (fun_tree f.now) (fun_tree g.now)) (type_tree t.now)) }
     {
         let u = self.fun_under(1, f, t)?;
         let v = self.fun_under(2, g, t)?;
@@ -86,7 +86,7 @@ impl Judge<'_> {
 
     #[cycle(typing)]
     fn times(&self, f: &Fun, g: &Fun, t: &Ty) -> Result<Ty, TypeFault>
-        ensures { IsTyping result (typing self.now.schema.now (context_of self.now.ctx.now) self.now.limited (FTimes (fun_tree f.now) (fun_tree g.now)) (type_tree t.now)) }
+        ensures { IsTyping result (typed_by self.now (FTimes (fun_tree f.now) (fun_tree g.now)) (type_tree t.now)) }
     {
         let Ty::Pair(first, second) = t else {
             return Err(self.fault(TypeWhy::NotThisInput));
@@ -98,7 +98,7 @@ impl Judge<'_> {
 
     #[cycle(typing)]
     fn partial(&self, f: &Fun, c: &Const, t: &Ty) -> Result<Ty, TypeFault>
-        ensures { IsTyping result (typing self.now.schema.now (context_of self.now.ctx.now) self.now.limited (FC (fun_tree f.now) (const_tree c.now)) (type_tree t.now)) }
+        ensures { IsTyping result (typed_by self.now (FC (fun_tree f.now) (const_tree c.now)) (type_tree t.now)) }
     {
         let first = self.const_under(2, c)?;
         let input = beside(self.alloc, first, t)?;
@@ -107,7 +107,8 @@ impl Judge<'_> {
 
     #[cycle(typing)]
     fn choice(&self, p: &Pred, f: &Fun, g: &Fun, t: &Ty) -> Result<Ty, TypeFault>
-        ensures { IsTyping result (typing self.now.schema.now (context_of self.now.ctx.now) self.now.limited (FIf (pred_tree p.now) (fun_tree f.now) (fun_tree g.now)) (type_tree t.now)) }
+        ensures { IsTyping result
+            (typed_by self.now (FIf (pred_tree p.now) (fun_tree f.now) (fun_tree g.now)) (type_tree t.now)) }
     {
         self.pred_under(1, p, t)?;
         let u = self.fun_under(2, f, t)?;
@@ -122,8 +123,8 @@ impl Judge<'_> {
     /// The set of a function's outputs where a predicate holds, at this input of both.
     #[cycle(typing)]
     fn set_over(&self, p: &Pred, f: &Fun, input: &Ty) -> Result<Ty, TypeFault>
-        ensures { IsTyping result (kid 1 (checking self.now.schema.now (context_of self.now.ctx.now) self.now.limited (pred_tree p.now) (type_tree input.now)) (λ _.
-            kid 2 (typing self.now.schema.now (context_of self.now.ctx.now) self.now.limited (fun_tree f.now) (type_tree input.now)) (λ u. sized self.now.limited (TSet u)))) }
+        ensures { IsTyping result (kid 1 (checked_by self.now (pred_tree p.now) (type_tree input.now)) (λ _.
+            kid 2 (typed_by self.now (fun_tree f.now) (type_tree input.now)) (λ u. sized_by self.now (TSet u)))) }
     {
         self.pred_under(1, p, input)?;
         let u = self.fun_under(2, f, input)?;
@@ -132,7 +133,7 @@ impl Judge<'_> {
 
     #[cycle(typing)]
     fn iterate(&self, p: &Pred, f: &Fun, t: &Ty) -> Result<Ty, TypeFault>
-        ensures { IsTyping result (typing self.now.schema.now (context_of self.now.ctx.now) self.now.limited (FIterate (pred_tree p.now) (fun_tree f.now)) (type_tree t.now)) }
+        ensures { IsTyping result (typed_by self.now (FIterate (pred_tree p.now) (fun_tree f.now)) (type_tree t.now)) }
     {
         let Some(input) = member(t) else {
             return Err(self.fault(TypeWhy::NotThisInput));
@@ -142,7 +143,7 @@ impl Judge<'_> {
 
     #[cycle(typing)]
     fn iter(&self, p: &Pred, f: &Fun, t: &Ty) -> Result<Ty, TypeFault>
-        ensures { IsTyping result (typing self.now.schema.now (context_of self.now.ctx.now) self.now.limited (FIter (pred_tree p.now) (fun_tree f.now)) (type_tree t.now)) }
+        ensures { IsTyping result (typed_by self.now (FIter (pred_tree p.now) (fun_tree f.now)) (type_tree t.now)) }
     {
         let input = self.input(with_member(self.alloc, t)?)?;
         self.set_over(p, f, &input)
@@ -150,7 +151,7 @@ impl Judge<'_> {
 
     #[cycle(typing)]
     fn join(&self, p: &Pred, f: &Fun, t: &Ty) -> Result<Ty, TypeFault>
-        ensures { IsTyping result (typing self.now.schema.now (context_of self.now.ctx.now) self.now.limited (FJoin (pred_tree p.now) (fun_tree f.now)) (type_tree t.now)) }
+        ensures { IsTyping result (typed_by self.now (FJoin (pred_tree p.now) (fun_tree f.now)) (type_tree t.now)) }
     {
         let input = self.input(members_of_both(self.alloc, t)?)?;
         self.set_over(p, f, &input)
@@ -158,7 +159,7 @@ impl Judge<'_> {
 
     #[cycle(typing)]
     fn nest(&self, f: &Fun, g: &Fun, t: &Ty) -> Result<Ty, TypeFault>
-        ensures { IsTyping result (typing self.now.schema.now (context_of self.now.ctx.now) self.now.limited (FNest (fun_tree f.now) (fun_tree g.now)) (type_tree t.now)) }
+        ensures { IsTyping result (typed_by self.now (FNest (fun_tree f.now) (fun_tree g.now)) (type_tree t.now)) }
     {
         let Ty::Pair(left, right) = t else {
             return Err(self.fault(TypeWhy::NotThisInput));
@@ -180,7 +181,7 @@ impl Judge<'_> {
 
     #[cycle(typing)]
     fn unnest(&self, f: &Fun, g: &Fun, t: &Ty) -> Result<Ty, TypeFault>
-        ensures { IsTyping result (typing self.now.schema.now (context_of self.now.ctx.now) self.now.limited (FUnnest (fun_tree f.now) (fun_tree g.now)) (type_tree t.now)) }
+        ensures { IsTyping result (typed_by self.now (FUnnest (fun_tree f.now) (fun_tree g.now)) (type_tree t.now)) }
     {
         let Some(input) = member(t) else {
             return Err(self.fault(TypeWhy::NotThisInput));
@@ -192,7 +193,7 @@ impl Judge<'_> {
 
     #[cycle(typing)]
     fn pred_at(&self, p: &Pred, f: &Fun, t: &Ty) -> Result<(), TypeFault>
-        ensures { IsCheck result (checking self.now.schema.now (context_of self.now.ctx.now) self.now.limited (PAt (pred_tree p.now) (fun_tree f.now)) (type_tree t.now)) }
+        ensures { IsCheck result (checked_by self.now (PAt (pred_tree p.now) (fun_tree f.now)) (type_tree t.now)) }
     {
         let between = self.fun_under(2, f, t)?;
         self.pred_under(1, p, &between)
@@ -200,7 +201,7 @@ impl Judge<'_> {
 
     #[cycle(typing)]
     fn both(&self, p: &Pred, q: &Pred, t: &Ty) -> Result<(), TypeFault>
-        ensures { IsCheck result (checking self.now.schema.now (context_of self.now.ctx.now) self.now.limited (PAnd (pred_tree p.now) (pred_tree q.now)) (type_tree t.now)) }
+        ensures { IsCheck result (checked_by self.now (PAnd (pred_tree p.now) (pred_tree q.now)) (type_tree t.now)) }
     {
         self.pred_under(1, p, t)?;
         self.pred_under(2, q, t)
@@ -208,7 +209,7 @@ impl Judge<'_> {
 
     #[cycle(typing)]
     fn inverse(&self, p: &Pred, t: &Ty) -> Result<(), TypeFault>
-        ensures { IsCheck result (checking self.now.schema.now (context_of self.now.ctx.now) self.now.limited (PInv (pred_tree p.now)) (type_tree t.now)) }
+        ensures { IsCheck result (checked_by self.now (PInv (pred_tree p.now)) (type_tree t.now)) }
     {
         let input = self.input(turned(self.alloc, t)?)?;
         self.pred_under(1, p, &input)
@@ -216,7 +217,7 @@ impl Judge<'_> {
 
     #[cycle(typing)]
     fn partial_pred(&self, p: &Pred, c: &Const, t: &Ty) -> Result<(), TypeFault>
-        ensures { IsCheck result (checking self.now.schema.now (context_of self.now.ctx.now) self.now.limited (PCP (pred_tree p.now) (const_tree c.now)) (type_tree t.now)) }
+        ensures { IsCheck result (checked_by self.now (PCP (pred_tree p.now) (const_tree c.now)) (type_tree t.now)) }
     {
         let constant = self.const_under(2, c)?;
         let input = beside(self.alloc, constant, t)?;
@@ -225,7 +226,7 @@ impl Judge<'_> {
 
     #[cycle(typing)]
     fn quantified(&self, p: &Pred, t: &Ty) -> Result<(), TypeFault>
-        ensures { IsCheck result (checking self.now.schema.now (context_of self.now.ctx.now) self.now.limited (PEx (pred_tree p.now)) (type_tree t.now)) }
+        ensures { IsCheck result (checked_by self.now (PEx (pred_tree p.now)) (type_tree t.now)) }
     {
         let input = self.input(with_member(self.alloc, t)?)?;
         self.pred_under(1, p, &input)
@@ -234,7 +235,7 @@ impl Judge<'_> {
     /// The output type of the child with the number, or its first fault.
     #[cycle(typing)]
     fn fun_under(&self, child: u8, f: &Fun, t: &Ty) -> Result<Ty, TypeFault>
-        ensures { IsTyping result (under child (typing self.now.schema.now (context_of self.now.ctx.now) self.now.limited (fun_tree f.now) (type_tree t.now))) }
+        ensures { IsTyping result (under child (typed_by self.now (fun_tree f.now) (type_tree t.now))) }
     {
         match self.fun(f, t) {
             Ok(u) => Ok(u),
@@ -249,7 +250,7 @@ impl Judge<'_> {
     /// Whether the child with the number is typed, or its first fault.
     #[cycle(typing)]
     fn pred_under(&self, child: u8, p: &Pred, t: &Ty) -> Result<(), TypeFault>
-        ensures { IsCheck result (under child (checking self.now.schema.now (context_of self.now.ctx.now) self.now.limited (pred_tree p.now) (type_tree t.now))) }
+        ensures { IsCheck result (under child (checked_by self.now (pred_tree p.now) (type_tree t.now))) }
     {
         match self.pred(p, t) {
             Ok(()) => Ok(()),

@@ -109,7 +109,7 @@ fn put_in_pred(
     }
 }
 
-/// Puts it at a path in the child of a function that has the number.
+/// Puts a copy of the new part at a path in the child of a function that has the number, counted from 1.
 #[cycle(put_in)]
 #[tactic(auto, using(crate::proofs::Replaced::among))]
 fn put_below_fun(
@@ -137,7 +137,7 @@ fn put_below_fun(
     }
 }
 
-/// Puts it at a path in the child of a predicate that has the number.
+/// Puts a copy of the new part at a path in the child of a predicate that has the number, counted from 1.
 #[cycle(put_in)]
 #[tactic(auto, using(crate::proofs::Replaced::among))]
 fn put_below_pred(
@@ -162,9 +162,9 @@ fn put_below_pred(
     }
 }
 
-/// Of two functions.
+/// The same of two functions that are the children.
 #[cycle(put_in)]
-#[tactic(auto, using(crate::proofs::Replaced::first, crate::proofs::Replaced::second, crate::proofs::Replaced::not_of_two))]
+#[tactic(auto, using(crate::proofs::Replaced::numbered))]
 fn put_in_funs(
     alloc: Global,
     f: &mut Box<Fun>,
@@ -183,9 +183,9 @@ fn put_in_funs(
     }
 }
 
-/// Of a function and a constant.
+/// The same of a function and a constant.
 #[cycle(put_in)]
-#[tactic(auto, using(crate::proofs::Replaced::first, crate::proofs::Replaced::second, crate::proofs::Replaced::not_of_two))]
+#[tactic(auto, using(crate::proofs::Replaced::numbered))]
 fn put_in_fun_or_const(
     alloc: Global,
     f: &mut Box<Fun>,
@@ -204,9 +204,9 @@ fn put_in_fun_or_const(
     }
 }
 
-/// Of a predicate and a function.
+/// The same of a predicate and a function.
 #[cycle(put_in)]
-#[tactic(auto, using(crate::proofs::Replaced::first, crate::proofs::Replaced::second, crate::proofs::Replaced::not_of_two))]
+#[tactic(auto, using(crate::proofs::Replaced::numbered))]
 fn put_in_pred_or_fun(
     alloc: Global,
     p: &mut Box<Pred>,
@@ -225,9 +225,9 @@ fn put_in_pred_or_fun(
     }
 }
 
-/// Of a predicate and two functions.
+/// The same of a predicate and two functions.
 #[cycle(put_in)]
-#[tactic(auto, using(crate::proofs::Replaced::first, crate::proofs::Replaced::second, crate::proofs::Replaced::third, crate::proofs::Replaced::not_of_three))]
+#[tactic(auto, using(crate::proofs::Replaced::numbered))]
 fn put_in_choice(
     alloc: Global,
     p: &mut Box<Pred>,
@@ -238,7 +238,8 @@ fn put_in_choice(
     new: SubTerm,
 ) -> Result<(), PlaceFault>
     ensures { IsPutAmong
-        (TermP (pred_tree p.old.value) ∷ TermF (fun_tree f.old.value) ∷ TermF (fun_tree g.old.value) ∷ []) n rest.now (sub_tree new.entry)
+        (TermP (pred_tree p.old.value) ∷ TermF (fun_tree f.old.value) ∷ TermF (fun_tree g.old.value) ∷ []) n rest.now
+        (sub_tree new.entry)
         (TermP (pred_tree p.new.value) ∷ TermF (fun_tree f.new.value) ∷ TermF (fun_tree g.new.value) ∷ []) result }
 {
     match n {
@@ -249,9 +250,9 @@ fn put_in_choice(
     }
 }
 
-/// Of two predicates.
+/// The same of two predicates.
 #[cycle(put_in)]
-#[tactic(auto, using(crate::proofs::Replaced::first, crate::proofs::Replaced::second, crate::proofs::Replaced::not_of_two))]
+#[tactic(auto, using(crate::proofs::Replaced::numbered))]
 fn put_in_preds(
     alloc: Global,
     p: &mut Box<Pred>,
@@ -270,9 +271,9 @@ fn put_in_preds(
     }
 }
 
-/// Of a predicate and a constant.
+/// The same of a predicate and a constant.
 #[cycle(put_in)]
-#[tactic(auto, using(crate::proofs::Replaced::first, crate::proofs::Replaced::second, crate::proofs::Replaced::not_of_two))]
+#[tactic(auto, using(crate::proofs::Replaced::numbered))]
 fn put_in_pred_or_const(
     alloc: Global,
     p: &mut Box<Pred>,
@@ -291,9 +292,9 @@ fn put_in_pred_or_const(
     }
 }
 
-/// Of one predicate.
+/// The same of one predicate.
 #[cycle(put_in)]
-#[tactic(auto, using(crate::proofs::Replaced::first, crate::proofs::Replaced::not_of_one))]
+#[tactic(auto, using(crate::proofs::Replaced::numbered))]
 fn put_in_only_pred(
     alloc: Global,
     p: &mut Box<Pred>,
@@ -301,7 +302,8 @@ fn put_in_only_pred(
     rest: &[u8],
     new: SubTerm,
 ) -> Result<(), PlaceFault>
-    ensures { IsPutAmong (TermP (pred_tree p.old.value) ∷ []) n rest.now (sub_tree new.entry) (TermP (pred_tree p.new.value) ∷ []) result }
+    ensures { IsPutAmong (TermP (pred_tree p.old.value) ∷ []) n rest.now (sub_tree new.entry)
+        (TermP (pred_tree p.new.value) ∷ []) result }
 {
     match n {
         1 => return put_in_pred(alloc, p, rest, new),
@@ -309,8 +311,8 @@ fn put_in_only_pred(
     }
 }
 
-/// Of one constant.
-#[tactic(auto, using(crate::proofs::Replaced::first, crate::proofs::Replaced::not_of_one))]
+/// The same of one constant.
+#[tactic(auto, using(crate::proofs::Replaced::numbered))]
 fn put_in_only_const(c: &mut Const, n: u8, rest: &[u8], new: SubTerm) -> Result<(), PlaceFault>
     ensures { IsPutAmong (TermC (const_tree c.old) ∷ []) n rest.now (sub_tree new.entry) (TermC (const_tree c.new) ∷ []) result }
 {

@@ -193,6 +193,7 @@ impl Pred {
     }
 }
 
+/// A copy in a box of its own.
 #[cycle(copy_term)]
 fn copy_fun(f: &Box<Fun>) -> Result<Box<Fun>, Memory>
     ensures { IfOk result (λ b. fun_tree b.value ≡ fun_tree f.now.value) }
@@ -203,6 +204,7 @@ fn copy_fun(f: &Box<Fun>) -> Result<Box<Fun>, Memory>
     Ok(boxed)
 }
 
+/// The same of a predicate.
 #[cycle(copy_term)]
 fn copy_pred(p: &Box<Pred>) -> Result<Box<Pred>, Memory>
     ensures { IfOk result (λ b. pred_tree b.value ≡ pred_tree p.now.value) }
@@ -213,6 +215,7 @@ fn copy_pred(p: &Box<Pred>) -> Result<Box<Pred>, Memory>
     Ok(boxed)
 }
 
+/// Copies of two functions.
 #[cycle(copy_term)]
 fn copy_funs(f: &Box<Fun>, g: &Box<Fun>) -> Result<(Box<Fun>, Box<Fun>), Memory>
     ensures { IfOk result (λ r. (fun_tree r.0.value ≡ fun_tree f.now.value) × (fun_tree r.1.value ≡ fun_tree g.now.value)) }
@@ -222,6 +225,7 @@ fn copy_funs(f: &Box<Fun>, g: &Box<Fun>) -> Result<(Box<Fun>, Box<Fun>), Memory>
     Ok((f, g))
 }
 
+/// Copies of a function and a constant.
 #[cycle(copy_term)]
 fn copy_fun_and_const(f: &Box<Fun>, c: &Const) -> Result<(Box<Fun>, Const), Memory>
     ensures { IfOk result (λ r. (fun_tree r.0.value ≡ fun_tree f.now.value) × (const_tree r.1 ≡ const_tree c.now)) }
@@ -231,6 +235,7 @@ fn copy_fun_and_const(f: &Box<Fun>, c: &Const) -> Result<(Box<Fun>, Const), Memo
     Ok((f, c))
 }
 
+/// Copies of a predicate and a function.
 #[cycle(copy_term)]
 fn copy_pred_and_fun(p: &Box<Pred>, f: &Box<Fun>) -> Result<(Box<Pred>, Box<Fun>), Memory>
     ensures { IfOk result (λ r. (pred_tree r.0.value ≡ pred_tree p.now.value) × (fun_tree r.1.value ≡ fun_tree f.now.value)) }
@@ -240,13 +245,15 @@ fn copy_pred_and_fun(p: &Box<Pred>, f: &Box<Fun>) -> Result<(Box<Pred>, Box<Fun>
     Ok((p, f))
 }
 
+/// Copies of a predicate and two functions.
 #[cycle(copy_term)]
 fn copy_choice(
     p: &Box<Pred>,
     f: &Box<Fun>,
     g: &Box<Fun>,
 ) -> Result<(Box<Pred>, Box<Fun>, Box<Fun>), Memory>
-    ensures { IfOk result (λ r. (pred_tree r.0.value ≡ pred_tree p.now.value) × (fun_tree r.1.value ≡ fun_tree f.now.value) × (fun_tree r.2.value ≡ fun_tree g.now.value)) }
+    ensures { IfOk result (λ r. (pred_tree r.0.value ≡ pred_tree p.now.value) × (fun_tree r.1.value ≡ fun_tree f.now.value)
+        × (fun_tree r.2.value ≡ fun_tree g.now.value)) }
 {
     let p = copy_pred(p)?;
     let f = copy_fun(f)?;
@@ -254,6 +261,7 @@ fn copy_choice(
     Ok((p, f, g))
 }
 
+/// Copies of two predicates.
 #[cycle(copy_term)]
 fn copy_preds(p: &Box<Pred>, q: &Box<Pred>) -> Result<(Box<Pred>, Box<Pred>), Memory>
     ensures { IfOk result (λ r. (pred_tree r.0.value ≡ pred_tree p.now.value) × (pred_tree r.1.value ≡ pred_tree q.now.value)) }
@@ -263,6 +271,7 @@ fn copy_preds(p: &Box<Pred>, q: &Box<Pred>) -> Result<(Box<Pred>, Box<Pred>), Me
     Ok((p, q))
 }
 
+/// Copies of a predicate and a constant.
 #[cycle(copy_term)]
 fn copy_pred_and_const(p: &Box<Pred>, c: &Const) -> Result<(Box<Pred>, Const), Memory>
     ensures { IfOk result (λ r. (pred_tree r.0.value ≡ pred_tree p.now.value) × (const_tree r.1 ≡ const_tree c.now)) }

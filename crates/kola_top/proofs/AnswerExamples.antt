@@ -7,19 +7,19 @@ use Rattle.kola_top.specs.declared.status.Status.TheVariants as statuses
 use Rattle.kola_top.specs.Layout.{lines_from, kind, trim_blanks, section_of}
 use Rattle.kola_top.specs.Scan.{walk, read}
 use Rattle.kola_top.specs.FaultLines.{missing_line, usage_line}
-use Rattle.kola_top.specs.Answer.{Answer, usage, in_layout}
+use Rattle.kola_top.specs.Answer.{Answer, usage, missing}
 use Rattle.kola_top.proofs.FoundLaws.{walk_is}
 
 abbrev no_section : ℕ → Sections
 no_section lines = record { schema = None; database = None; rules = None; query = None; lines = lines }
 
-empty_job : Answer (codes "run" ∷ []) [] statuses.Layout (missing_line 0 (codes "query"))
+empty_job : Answer (codes "run" ∷ []) [] statuses.Layout (missing_line 1 (codes "query"))
 unfolding walk lines_from
-empty_job = in_layout Run (no_section 0) _ _ refl (omega arith) (walk_is [] (Ok (no_section 0)) refl) (refl, refl)
+empty_job = missing (record { before = record { action = Run; command = refl; is_short = omega arith }; found = no_section 0; sections = walk_is [] (Ok (no_section 0)) refl }) refl
 
-blank_job : Answer (codes "run" ∷ []) (codes " \n\t") statuses.Layout (missing_line 2 (codes "query"))
+blank_job : Answer (codes "run" ∷ []) (codes " \n\t") statuses.Layout (missing_line 3 (codes "query"))
 unfolding walk lines_from read kind trim_blanks section_of
-blank_job = in_layout Run (no_section 2) _ _ refl (omega arith) (walk_is (codes " \n\t") (Ok (no_section 2)) refl) (refl, refl)
+blank_job = missing (record { before = record { action = Run; command = refl; is_short = omega arith }; found = no_section 2; sections = walk_is (codes " \n\t") (Ok (no_section 2)) refl }) refl
 
 no_action : Answer (codes "fly" ∷ []) (codes "x") statuses.Usage usage_line
 no_action = usage refl

@@ -1,35 +1,40 @@
--- The words and a job have at most one answer.
-use Rattle.std.proofs.Common.{◌≡◌, ℕ, List, Option, Some, None, Result, Ok, Err, IfOk, refl, sym, ap, ◌∙◌, subst, arith, IsTrue}
+-- The words and a job have at most one answer: it is that of a line of stages, of which each refuses in at most one way or accepts one thing.
+use Rattle.std.proofs.Common.{◌≡◌, ℕ, ◌<◌, ◌≤◌, List, length, Option, Some, None, Result, Ok, Err, IfOk, codes, refl, sym, ap, ◌∙◌, subst, arith, IsTrue}
 use Rattle.kola_top.specs.declared.section.Span.{Span}
 use Rattle.kola_top.specs.declared.section.Sections.{Sections}
+use Rattle.kola_top.specs.declared.layout.LayoutFault.{LayoutFault}
 use Rattle.kola_top.specs.declared.words.Action.{Action}
-use Rattle.kola_top.specs.declared.words.Action.TheVariants.{Run}
 use Rattle.kola_top.specs.declared.status.Status.{Status}
+use Rattle.kola_top.specs.declared.status.Status.TheVariants as statuses
 use Rattle.kola_base.specs.Lexemes.{lexemes}
 use Rattle.kola_base.proofs.OneCut.{one_list}
 use Rattle.kola_values.specs.Databases.{Classes, Objects}
 use Rattle.serde_json.specs.Data.{Data}
 use Rattle.kola_load.specs.Loading.{db_of}
 use Rattle.kola_load.specs.Loaded.{Reads}
+use Rattle.kola_load.specs.SchemaAccepted.{greatest_nesting, Writes, FaultOf}
+use Rattle.kola_load.specs.declared.schema_fault.SchemaWhy.{SchemaWhy}
 use Rattle.kola_load.specs.declared.fault.DbFault.{DbFault}
 use Rattle.kola_load.specs.declared.fault.DbFault.TheVariants.{NotJson, Memory}
 use Rattle.kola_load.proofs.OneSchema.{one_schema, schema_or_fault, one_schema_fault}
+use Rattle.kola_top.specs.Words.{action_of}
+use Rattle.kola_top.specs.Layout.{lines_of, kinds, AreSections, IsFirstFault}
 use Rattle.kola_top.specs.SelectForm.{SelectForm, Says}
-use Rattle.kola_top.specs.FaultLines.{layout_fault_line, schema_line, database_line}
+use Rattle.kola_top.specs.Report.{report_text}
+use Rattle.kola_top.specs.FaultLines.{usage_line, too_long_line, layout_fault_line, missing_line, not_built_line, schema_line, database_line}
 use Rattle.kola_top.specs.Runs.{is_written}
-use Rattle.kola_top.specs.Answer.{greatest_nesting, text_at, text_in, IsQuery, IsRefused, DatabaseAnswer, refused, report, QueryAnswer, not_built, built, TextsAnswer, no_schema, under, AnswerAt, RunAnswer, Answer, ActionAnswer, usage, too_long, layout, in_layout}
+use Rattle.kola_top.specs.Stages.{greatest_length, text_at, text_in, IsQuery, IsNoQuery, IsTaken, IsLaidOut, HasSections, HasSchema, HasQuery, HasDatabase}
+use Rattle.kola_top.specs.Answer.{IsRefused, Answer, usage, too_long, layout, missing, schema, query, database, report, report_of_form}
 use Rattle.kola_top.proofs.FoundLaws.{one_fault, one_layout}
 use Rattle.kola_top.proofs.FormLaws.{one_form}
+use Rattle.kola_top.specs.Staged.{Then, refused, onward}
+use Rattle.kola_top.specs.StageLine.{at_words, at_length, at_layout, at_place, at_schema, at_query, at_database, Reported, reported, OnItsWay, AllTheWay}
+use Rattle.kola_top.proofs.Staged.{One, IsOne, one_then}
 
 one_query : (text : List ℕ) (f g : SelectForm) → IsQuery text f → IsQuery text g → f ≡ g
 one_query text f g a b =
     one_form (lexemes text b.tokens) f g
     (subst (λ ts. Says (lexemes text ts) f) (one_list a.tokens b.tokens text a.lexed b.lexed) a.says) b.says
-
--- what follows from an answer
-pub if_ok : {X E : Type 0} {P Q : X → Type 0} (r : Result X E) → ((x : X) → P x → Q x) → IfOk r P → IfOk r Q
-if_ok (Ok x) f h = f x h
-if_ok (Err e) f h = tt
 
 -- ---- databases
 
@@ -65,74 +70,105 @@ not_refused : (S : Classes) (text : List ℕ) (e : DbFault) (j : Data) (os : Obj
 not_refused S text _ j os (of_value e k b q) a p = no_ok os e (db_of S k) (ap (db_of S) (one_value text k j b a) ∙ p) q
 not_refused S text _ j os (no_value h) a p = h j a
 
-one_database : (S : Classes) (text : List ℕ) (f : SelectForm) (s t : Status) (b c : List ℕ) → DatabaseAnswer S text f s b → DatabaseAnswer S text f t c → (s ≡ t) × (b ≡ c)
-one_database S text f _ _ _ _ (refused d h) (refused e k) = (refl, ap database_line (one_refusal S text d e (refusal S text d h) (refusal S text e k)))
-one_database S text f _ _ _ _ (refused d h) (report j os a p) = absurd (not_refused S text d j os (refusal S text d h) a p)
-one_database S text f _ _ _ _ (report j os a p) (refused d h) = absurd (not_refused S text d j os (refusal S text d h) a p)
-one_database S text f _ _ _ _ (report j os a p) (report k us b q) = (refl, refl)
+-- ---- the answer as a line of stages
 
--- ---- queries and schemas
+module _ (words : List (List ℕ)) (job : List ℕ) where
+  pub staged : (s : Status) (b : List ℕ) → Answer words job s b → AllTheWay words job s b
+  staged _ _ (usage e) = refused tt e
+  staged _ _ (too_long a e h) = onward a _ _ e (refused tt h)
+  staged _ _ (layout f s h) = onward s.action _ _ s.command (onward tt _ _ s.is_short (refused f h))
+  staged _ _ (missing s h) = onward s.before.action _ _ s.before.command (onward tt _ _ s.before.is_short (onward s.found _ _ s.sections (refused tt h)))
+  staged _ _ (schema at why s h) =
+      let l = s.before in let t = l.before in
+      onward t.action _ _ t.command (onward tt _ _ t.is_short (onward l.found _ _ l.sections (onward s.place _ _ s.query (refused (at, why) h))))
+  staged _ _ (query c h) =
+      let s = c.before in let l = s.before in let t = l.before in
+      onward t.action _ _ t.command (onward tt _ _ t.is_short (onward l.found _ _ l.sections (onward s.place _ _ s.query (onward c.classes _ _ c.writes (refused tt h)))))
+  staged _ _ (database e q h) =
+      let c = q.before in let s = c.before in let l = s.before in let t = l.before in
+      onward t.action _ _ t.command (onward tt _ _ t.is_short (onward l.found _ _ l.sections (onward s.place _ _ s.query (onward c.classes _ _ c.writes (onward q.form _ _ q.is (refused e h))))))
+  staged _ _ (report d) =
+      let q = d.before in let c = q.before in let s = c.before in let l = s.before in let t = l.before in
+      onward t.action _ _ t.command (onward tt _ _ t.is_short (onward l.found _ _ l.sections (onward s.place _ _ s.query (onward c.classes _ _ c.writes (onward q.form _ _ q.is (onward tt _ _ (d.value, d.objects, d.reads, d.writes) reported))))))
 
-one_text : (S : Classes) (database query : List ℕ) (s t : Status) (b c : List ℕ) → QueryAnswer S database query s b → QueryAnswer S database query t c → (s ≡ t) × (b ≡ c)
-one_text S database query _ _ _ _ (not_built h) (not_built k) = (refl, refl)
-one_text S database query _ _ _ _ (not_built h) (built g t c k e) = absurd (h g k)
-one_text S database query _ _ _ _ (built f s b h d) (not_built k) = absurd (k f h)
-one_text S database query _ _ _ _ (built f s b h d) (built g t c k e) = one_database S database g s t b c (subst (λ x. DatabaseAnswer S database x s b) (one_query query f g h k) d) e
+  -- ---- each stage refuses in at most one way or accepts one thing
 
-one_under : (schema database query : List ℕ) (s t : Status) (b c : List ℕ) → TextsAnswer schema database query s b → TextsAnswer schema database query t c → (s ≡ t) × (b ≡ c)
-one_under schema database query _ _ _ _ (no_schema at why h) (no_schema to cause k) =
-    let same = one_schema_fault greatest_nesting schema at to why cause h k in
-    (refl, ap (λ n. schema_line n why) same.0 ∙ ap (schema_line to) same.1)
-one_under schema database query _ _ _ _ (no_schema at why h) (under T t c k e) = absurd (schema_or_fault greatest_nesting schema T at why k h)
-one_under schema database query _ _ _ _ (under S s b h d) (no_schema to cause k) = absurd (schema_or_fault greatest_nesting schema S to cause h k)
-one_under schema database query _ _ _ _ (under S s b h d) (under T t c k e) = one_text T database query s t b c (subst (λ X. QueryAnswer X database query s b) (one_schema greatest_nesting schema S T h k) d) e
+  one_words : IsOne (at_words words)
+  one_words = record { one_refusal = λ _ _ _ _. (refl, refl); one_thing = λ x y p q. some_is x y (sym p ∙ q); not_both = λ _ x p q. absurd (let i : None ≡ Some x = sym p ∙ q in cc) }
 
-one_place : (job : List ℕ) (found : Sections) (o : Option Span) (s t : Status) (b c : List ℕ) → AnswerAt job found o s b → AnswerAt job found o t c → (s ≡ t) × (b ≡ c)
-one_place job found None s t b c h k = (h.0 ∙ sym k.0, h.1 ∙ sym k.1)
-one_place job found (Some p) s t b c h k = one_under (text_in job found.schema) (text_in job found.database) (text_at job p) s t b c h k
+  one_length : IsOne (at_length job)
+  one_length = record { one_refusal = λ _ _ _ _. (refl, refl); one_thing = λ _ _ _ _. refl; not_both = λ _ _ p q. absurd (omega (arith, p, q)) }
 
-one_run : (job : List ℕ) (found : Sections) (s t : Status) (b c : List ℕ) → RunAnswer job found s b → RunAnswer job found t c → (s ≡ t) × (b ≡ c)
-one_run job found s t b c h k = one_place job found found.query s t b c h k
+  one_lay_out : IsOne (at_layout job)
+  one_lay_out = record {
+    one_refusal = λ e f p q. (refl, ap layout_fault_line (one_fault _ e f p q));
+    one_thing = λ x y p q. one_layout job x y p q;
+    not_both = λ e x p q. q.faultless p.at e.why p.faulty;
+  }
 
-one_action : (a : Action) (job : List ℕ) (found : Sections) (s t : Status) (b c : List ℕ) → ActionAnswer a job found s b → ActionAnswer a job found t c → (s ≡ t) × (b ≡ c)
-one_action Run = one_run
+  one_place : (found : Sections) → IsOne (at_place found)
+  one_place found = record { one_refusal = λ _ _ _ _. (refl, refl); one_thing = λ x y p q. some_is x y (sym p ∙ q); not_both = λ _ x p q. absurd (let i : None ≡ Some x = sym p ∙ q in cc) }
 
-pub one_answer : (words : List (List ℕ)) (job : List ℕ) (s t : Status) (b c : List ℕ) → Answer words job s b → Answer words job t c → (s ≡ t) × (b ≡ c)
-one_answer words job _ _ _ _ (usage e) (usage d) = (refl, refl)
-one_answer words job _ _ _ _ (usage e) (too_long a d h) = cc
-one_answer words job _ _ _ _ (usage e) (layout a f d h k) = cc
-one_answer words job _ _ _ _ (usage e) (in_layout a f s b d h k r) = cc
-one_answer words job _ _ _ _ (too_long a d h) (usage e) = cc
-one_answer words job _ _ _ _ (too_long a d h) (too_long b e k) = (refl, refl)
-one_answer words job _ _ _ _ (too_long a d h) (layout b f e k i) = absurd (omega (arith, h, k))
-one_answer words job _ _ _ _ (too_long a d h) (in_layout b f s c e k i r) = absurd (omega (arith, h, k))
-one_answer words job _ _ _ _ (layout a f d h k) (usage e) = cc
-one_answer words job _ _ _ _ (layout a f d h k) (too_long b e i) = absurd (omega (arith, h, i))
-one_answer words job _ _ _ _ (layout a f d h k) (layout b g e i j) = (refl, ap layout_fault_line (one_fault _ f g k j))
-one_answer words job _ _ _ _ (layout a f d h k) (in_layout b g s c e i j r) = absurd (j.faultless k.at f.why k.faulty)
-one_answer words job _ _ _ _ (in_layout a f s b d h k r) (usage e) = cc
-one_answer words job _ _ _ _ (in_layout a f s b d h k r) (too_long c e i) = absurd (omega (arith, h, i))
-one_answer words job _ _ _ _ (in_layout a f s b d h k r) (layout c g e i j) = absurd (k.faultless j.at g.why j.faulty)
-one_answer words job _ _ _ _ (in_layout a f s b d h k r) (in_layout c g t e i j l q) =
-    let action : a ≡ c = cc in
-    let found : f ≡ g = one_layout job f g k l in
-    one_action c job g s t b e (subst (λ x. ActionAnswer c job x s b) found (subst (λ x. ActionAnswer x job f s b) action r)) q
+  one_classes : (text : List ℕ) → IsOne (at_schema text)
+  one_classes text = record {
+    one_refusal = λ e f p q. let same = one_schema_fault greatest_nesting text e.0 f.0 e.1 f.1 p q in (refl, ap (λ n. schema_line n e.1) same.0 ∙ ap (schema_line f.0) same.1);
+    one_thing = λ x y p q. one_schema greatest_nesting text x y p q;
+    not_both = λ e x p q. schema_or_fault greatest_nesting text x e.0 e.1 q p;
+  }
 
-pub for_action : (a : Action) (job : List ℕ) (found : Sections) (s : Status) (b : List ℕ) → RunAnswer job found s b → ActionAnswer a job found s b
-for_action Run job found s b h = h
+  one_select : (text : List ℕ) → IsOne (at_query text)
+  one_select text = record { one_refusal = λ _ _ _ _. (refl, refl); one_thing = λ x y h k. one_query text x y h k; not_both = λ _ x h k. h x k }
 
-database_written : (S : Classes) (text : List ℕ) (f : SelectForm) (s : Status) (b : List ℕ) → DatabaseAnswer S text f s b → IsTrue (is_written s)
-database_written S text f _ _ (refused e h) = refl
-database_written S text f _ _ (report j os a p) = refl
+  one_objects : (S : Classes) (text : List ℕ) → IsOne (at_database S text)
+  one_objects S text = record {
+    one_refusal = λ e f p q. (refl, ap database_line (one_refusal S text e f (refusal S text e p) (refusal S text f q)));
+    one_thing = λ _ _ _ _. refl;
+    not_both = λ e _ p q. not_refused S text e q.0 q.1 (refusal S text e p) q.2 q.3;
+  }
 
-text_written : (S : Classes) (database query : List ℕ) (s : Status) (b : List ℕ) → QueryAnswer S database query s b → IsTrue (is_written s)
-text_written S database query _ _ (not_built h) = refl
-text_written S database query _ _ (built f s b h d) = database_written S database f s b d
+  one_report : (f : SelectForm) → One (Reported f)
+  one_report f _ _ _ _ reported reported = (refl, refl)
 
-under_written : (schema database query : List ℕ) (s : Status) (b : List ℕ) → TextsAnswer schema database query s b → IsTrue (is_written s)
-under_written schema database query _ _ (no_schema at why h) = refl
-under_written schema database query _ _ (under S s b h d) = text_written S database query s b d
+  one_staged : One (AllTheWay words job)
+  one_staged =
+      one_then (at_words words) _ one_words (λ _ _. one_then (at_length job) _ one_length (λ _ _. one_then (at_layout job) _ one_lay_out (λ found _. one_then (at_place found) _ (one_place found) (λ p _.
+      one_then (at_schema (text_in job found.schema)) _ (one_classes (text_in job found.schema)) (λ S _. one_then (at_query (text_at job p)) _ (one_select (text_at job p)) (λ f _.
+      one_then (at_database S (text_in job found.database)) _ (one_objects S (text_in job found.database)) (λ _ _. one_report f)))))))
 
-pub run_written : (job : List ℕ) (found : Sections) (o : Option Span) (s : Status) (b : List ℕ) → AnswerAt job found o s b → IsTrue (is_written s)
-run_written job found None s b h = subst (λ t. IsTrue (is_written t)) (sym h.0) refl
-run_written job found (Some p) s b h = under_written (text_in job found.schema) (text_in job found.database) (text_at job p) s b h
+  pub one_answer : One (Answer words job)
+  one_answer s t b c x y = one_staged s t b c (staged s b x) (staged t c y)
+
+  -- the line of stages says nothing else
+  pub answered : (t : IsTaken words job) (s : Status) (b : List ℕ) → OnItsWay job s b → Answer words job s b
+  answered t _ _ (refused f h) = layout f t h
+  answered t _ _ (onward found _ _ l (refused _ h)) = missing (record { before = t; found = found; sections = l }) h
+  answered t _ _ (onward found _ _ l (onward p _ _ q (refused f h))) =
+      schema f.0 f.1 (record { before = record { before = t; found = found; sections = l }; place = p; query = q }) h
+  answered t _ _ (onward found _ _ l (onward p _ _ q (onward S _ _ w (refused _ h)))) =
+      query (record { before = record { before = record { before = t; found = found; sections = l }; place = p; query = q }; classes = S; writes = w }) h
+  answered t _ _ (onward found _ _ l (onward p _ _ q (onward S _ _ w (onward f _ _ i (refused e h))))) =
+      database e (record { before = record { before = record { before = record { before = t; found = found; sections = l }; place = p; query = q }; classes = S; writes = w }; form = f; is = i }) h
+  answered t _ _ (onward found _ _ l (onward p _ _ q (onward S _ _ w (onward f _ _ i (onward _ _ _ d reported))))) =
+      report (record {
+        before = record { before = record { before = record { before = record { before = t; found = found; sections = l }; place = p; query = q }; classes = S; writes = w }; form = f; is = i };
+        value = d.0;
+        objects = d.1;
+        reads = d.2;
+        writes = d.3;
+      })
+
+  pub wholly_answered : (s : Status) (b : List ℕ) → AllTheWay words job s b → Answer words job s b
+  wholly_answered _ _ (refused _ e) = usage e
+  wholly_answered _ _ (onward a _ _ e (refused _ h)) = too_long a e h
+  wholly_answered _ _ (onward a s b e (onward _ _ _ h k)) = answered (record { action = a; command = e; is_short = h }) s b k
+
+  -- each answer is one that is written
+  pub answers_are_written : (s : Status) (b : List ℕ) → Answer words job s b → IsTrue (is_written s)
+  answers_are_written _ _ (usage e) = refl
+  answers_are_written _ _ (too_long a e h) = refl
+  answers_are_written _ _ (layout f s h) = refl
+  answers_are_written _ _ (missing s h) = refl
+  answers_are_written _ _ (schema at why s h) = refl
+  answers_are_written _ _ (query c h) = refl
+  answers_are_written _ _ (database e q h) = refl
+  answers_are_written _ _ (report d) = refl

@@ -6,7 +6,7 @@ use Rattle.std.specs.Str.{bytes_eq}
 use Rattle.std.proofs.lemmas.List.{append_assoc, append-nil}
 use Rattle.std.proofs.lemmas.Slice.Eq.{bytes_eq-Decides}
 use Rattle.kola_base.specs.Lexemes.{Lexeme, LWord, LNumber, LString, LSign}
-use Rattle.kola_load.specs.Names.{is_name}
+use Rattle.kola_base.specs.QueryWords.{is_name}
 use Rattle.kola_top.specs.SelectForm.{SelectForm, IsForm, IsReading, Says, spelled, numbers_spelled, bound_spelled}
 use Rattle.kola_top.specs.FormReader.{word, sign, name, number, behind, behind_sign, range, next_number, closed_numbers, more_numbers, numbers, last_number, bound, head, form}
 

@@ -4,7 +4,10 @@ pub mod FoundLaws
 mod RowLaws
 mod FormLaws
 pub mod FormReads
+mod Staged
 pub mod AnswerLaws
+pub mod StageLaws
+mod AnswerExists
 mod RunLaws
 mod AnswerExamples
 pub mod PlaceLaws

@@ -71,7 +71,7 @@ unknown_section : layout_fault_line (record { line = 12; why = UnknownSection })
 unfolding digits
 unknown_section = refl
 
-missing_query : missing_line 0 (codes "query") ≡ codes "fault: layout line 1: SectionMissing query\n"
+missing_query : missing_line 1 (codes "query") ≡ codes "fault: layout line 1: SectionMissing query\n"
 unfolding digits
 missing_query = refl
 

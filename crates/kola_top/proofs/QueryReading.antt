@@ -6,7 +6,7 @@ use Rattle.kola_base.specs.Tokens.{AreTokens, StopsAt}
 use Rattle.kola_base.specs.Lexemes.{Lexeme, lexemes}
 use Rattle.kola_base.proofs.OneCut.{one_list, not_both}
 use Rattle.kola_top.specs.SelectForm.{SelectForm, Says, IsReading}
-use Rattle.kola_top.specs.Answer.{IsQuery, IsQueryReading}
+use Rattle.kola_top.specs.Stages.{IsQuery, IsQueryReading}
 
 pub no_query : (text : List ℕ) (at : ℕ) (why : LexWhy) (f : SelectForm) → StopsAt text at why → IsQuery text f → ⊥
 no_query text at why f stops q = not_both q.tokens text at why q.lexed stops

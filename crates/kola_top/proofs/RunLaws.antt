@@ -4,16 +4,12 @@ use Rattle.kola_base.specs.declared.reading.ReadAllFault.{ReadAllFault}
 use Rattle.kola_base.specs.declared.reading.ReadAllFault.TheVariants.{TooLong}
 use Rattle.kola_base.specs.ReadToEnd.{AnswersTo}
 use Rattle.kola_top.specs.declared.words.Action.{Action}
-use Rattle.kola_top.specs.declared.words.Action.TheVariants.{Run}
-use Rattle.kola_top.specs.declared.section.Span.{Span}
-use Rattle.kola_top.specs.declared.section.Sections.{Sections}
 use Rattle.kola_top.specs.declared.status.Status.{Status}
 use Rattle.kola_top.specs.declared.status.Status.TheVariants as statuses
 use Rattle.kola_top.specs.Words.{action_of}
 use Rattle.kola_top.specs.FaultLines.{usage_line, too_long_line}
-use Rattle.kola_values.specs.Databases.{Classes}
-use Rattle.kola_top.specs.SelectForm.{SelectForm}
-use Rattle.kola_top.specs.Answer.{greatest_length, text_at, text_in, DatabaseAnswer, refused, report, QueryAnswer, not_built, built, TextsAnswer, no_schema, under, AnswerAt, RunAnswer, ActionAnswer, Answer, usage, too_long, layout, in_layout}
+use Rattle.kola_top.specs.Stages.{greatest_length}
+use Rattle.kola_top.specs.Answer.{Answer, usage, too_long, layout, missing, schema, query, database, report}
 use Rattle.kola_top.specs.Runs.{Tells, Wrote, Completes, Sent, whole, front, is_written}
 use Rattle.kola_top.proofs.AnswerLaws.{one_answer}
 
@@ -50,33 +46,15 @@ silent before after m n due _ bytes written (whole sent) (inr e) = let wrong : I
 silent before after m n due _ bytes written (front k proper sent rose) (inl e) = cc
 silent before after m n due _ bytes written (front k proper sent rose) (inr e) = cc
 
-database_usage : (S : Classes) (text : List ℕ) (f : SelectForm) (s : Status) (b : List ℕ) → DatabaseAnswer S text f s b → s ≡ statuses.Usage → ⊥
-database_usage S text f _ _ (refused e h) u = cc
-database_usage S text f _ _ (report j os a p) u = cc
-
-text_usage : (S : Classes) (database query : List ℕ) (s : Status) (b : List ℕ) → QueryAnswer S database query s b → s ≡ statuses.Usage → ⊥
-text_usage S database query _ _ (not_built h) u = cc
-text_usage S database query _ _ (built f s b h d) u = database_usage S database f s b d u
-
-under_usage : (schema database query : List ℕ) (s : Status) (b : List ℕ) → TextsAnswer schema database query s b → s ≡ statuses.Usage → ⊥
-under_usage schema database query _ _ (no_schema at why h) u = cc
-under_usage schema database query _ _ (under S s b h d) u = text_usage S database query s b d u
-
-place_usage : (job : List ℕ) (found : Sections) (o : Option Span) (s : Status) (b : List ℕ) → AnswerAt job found o s b → s ≡ statuses.Usage → ⊥
-place_usage job found None s b h u = let wrong : statuses.Layout ≡ statuses.Usage = sym h.0 ∙ u in cc
-place_usage job found (Some p) s b h u = under_usage (text_in job found.schema) (text_in job found.database) (text_at job p) s b h u
-
-run_usage : (job : List ℕ) (found : Sections) (s : Status) (b : List ℕ) → RunAnswer job found s b → s ≡ statuses.Usage → ⊥
-run_usage job found s b h u = place_usage job found found.query s b h u
-
-action_usage : (a : Action) (job : List ℕ) (found : Sections) (s : Status) (b : List ℕ) → ActionAnswer a job found s b → s ≡ statuses.Usage → ⊥
-action_usage Run = run_usage
-
 answer_usage : (words : List (List ℕ)) (job : List ℕ) (s : Status) (b : List ℕ) → Answer words job s b → s ≡ statuses.Usage → action_of words ≡ None
 answer_usage words job _ _ (usage e) u = e
 answer_usage words job _ _ (too_long a d h) u = cc
-answer_usage words job _ _ (layout a f d h k) u = cc
-answer_usage words job _ _ (in_layout a f s b d h k r) u = absurd (action_usage a job f s b r u)
+answer_usage words job _ _ (layout f t h) u = cc
+answer_usage words job _ _ (missing l h) u = cc
+answer_usage words job _ _ (schema at why l h) u = cc
+answer_usage words job _ _ (query c h) u = cc
+answer_usage words job _ _ (database e q h) u = cc
+answer_usage words job _ _ (report d) u = cc
 
 pub usage_only : (words : List (List ℕ)) (job : List ℕ) (before after : Option (List ℕ)) (m n : ℕ) (due status : Status) (bytes sent : List ℕ) → Answer words job due bytes → Sent due sent before after m n status
     → status ≡ statuses.Usage → action_of words ≡ None

@@ -1,5 +1,5 @@
 -- The line that each refusal writes: a cause is its name, with its fields behind it, each behind one blank.
-use Rattle.std.specs.Prelude.{ℕ, ◌+◌, List, ◌++◌, codes}
+use Rattle.std.specs.Prelude.{ℕ, List, ◌++◌, codes}
 use Rattle.std.specs.Fmt.{decimal}
 use Rattle.kola_base.specs.declared.lex.LexWhy.{LexWhy}
 use Rattle.kola_base.specs.declared.lex.LexWhy.TheVariants.{BadByte, OpenString, BadEscape, NumberTooLarge, NotUtf8}
@@ -30,9 +30,9 @@ layout_line line cause = codes "fault: layout line " ++ (decimal line ++ (codes 
 abbrev pub layout_fault_line : LayoutFault → List ℕ
 layout_fault_line fault = layout_line fault.line (layout_cause fault.why)
 
--- a section that is needed stands behind the last line
+-- a section that is needed would stand in this line, behind the last
 abbrev pub missing_line : ℕ → List ℕ → List ℕ
-missing_line lines section = layout_line (lines + 1) (codes "SectionMissing " ++ section)
+missing_line line section = layout_line line (codes "SectionMissing " ++ section)
 
 -- the place in the query's text, and the cause
 abbrev pub query_line : ℕ → List ℕ → List ℕ

@@ -3,7 +3,7 @@ use Rattle.std.specs.Prelude.{◌≡◌, ℕ, ℤ, List, [], ◌∷◌, ◌++◌
 use Rattle.std.specs.Option.{option_and_then}
 use Rattle.std.specs.Str.{bytes_eq}
 use Rattle.kola_base.specs.Lexemes.{Lexeme, LWord, LNumber, LSign}
-use Rattle.kola_load.specs.Names.{is_name}
+use Rattle.kola_base.specs.QueryWords.{is_name}
 use Rattle.kola_top.specs.SelectForm.{SelectForm}
 
 -- what a function answered, as a view sees it, is what reading finds

@@ -7,7 +7,11 @@ pub mod Report
 pub mod Statuses
 pub mod Words
 pub mod FaultLines
+pub mod Stages
 pub mod Answer
+pub mod Staged
+pub mod StageLine
+pub mod Refusals
 pub mod FormReader
 pub mod FormViews
 pub mod ReportViews

@@ -1,11 +1,18 @@
 -- What the top call answers, by the words, the job that the source had left, and what the sink was given.
-use Rattle.std.specs.Prelude.{◌≡◌, ◌⊎◌, ℕ, ◌<◌, Bool, true, false, List, length, take}
+use Rattle.std.specs.Prelude.{◌≡◌, ◌⊎◌, ℕ, ◌<◌, Bool, true, false, List, length, take, None}
 use Rattle.std.specs.Io.KnownBytes.{append_known}
 use Rattle.std.specs.declared.option.Option.{Option}
 use Rattle.kola_base.specs.Causes.{Rose}
 use Rattle.kola_top.specs.declared.status.Status.{Status}
 use Rattle.kola_top.specs.declared.status.Status.TheVariants as statuses
+use Rattle.kola_top.specs.Words.{action_of}
 use Rattle.kola_top.specs.Answer.{Answer}
+
+-- the usage line is answered exactly where the words are no command, unless it could not be written, and then the source is as it was
+pub record AnswersUsage {S : Type 0} (words : List (List ℕ)) (before after : S) (status : Status) : Type 0 where
+  pub comes : action_of words ≡ None → (status ≡ statuses.Usage) ⊎ (status ≡ statuses.WriteFault)
+  pub only : status ≡ statuses.Usage → action_of words ≡ None
+  pub unread : action_of words ≡ None → after ≡ before
 
 -- the sink was given the whole answer to the job, which has this status
 abbrev pub Wrote : List (List ℕ) → List ℕ → Option (List ℕ) → Option (List ℕ) → Status → Type 0

@@ -1,7 +1,7 @@
 -- The one form of query that is answered: `select distinct V from V in set(N, ..)`, which `where V < N` may follow.
 use Rattle.std.specs.Prelude.{◌≡◌, ℕ, ℤ, ◌<◌, true, List, [], ◌∷◌, ◌++◌, length, Option, Some, None, codes}
 use Rattle.kola_base.specs.Lexemes.{Lexeme, LWord, LNumber, LSign}
-use Rattle.kola_load.specs.Names.{is_name}
+use Rattle.kola_base.specs.QueryWords.{is_name}
 
 pub record SelectForm : Type 0 where
   pub variable : List ℕ

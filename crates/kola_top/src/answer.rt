@@ -1,24 +1,25 @@
 //! The answer to a job that was read: its status and the bytes that are written.
 
-ghost use Rattle.std.specs.Prelude.{◌≡◌, ◌≤◌, ◌<◌, ℕ, List, IfOk, IfSome, IsTrue, Some, length, filter, codes};
+ghost use Rattle.std.specs.Prelude.{◌≡◌, ◌≤◌, ◌<◌, ℕ, List, IfOk, IfSome, IsTrue, Some, length, filter};
 ghost use Rattle.kola_values.specs.Values.{VSet, of_items};
 ghost use Rattle.kola_canon.specs.Spelling.{value_spelling};
 ghost use Rattle.kola_term.specs.Terms.{CSet, FId, FSnd, FComp, FPair, FK, FIter};
 ghost use Rattle.kola_text.specs.Spelling.{fun_spelling};
-ghost use Rattle.kola_top.specs.Answer.{Answer, DatabaseAnswer, QueryAnswer, TextsAnswer, RunAnswer, is_memory, text_in, greatest_length, report_of_form, unchanged_report};
-ghost use Rattle.kola_top.specs.FaultLines.{missing_line};
+ghost use Rattle.kola_top.specs.Stages.{text_in, greatest_length};
+ghost use Rattle.kola_top.specs.Answer.{Answer, is_memory, report_of_form, unchanged_report};
+ghost use Rattle.kola_top.specs.StageLine.{at_place, at_schema, at_query, at_database, OnItsWay};
+ghost use Rattle.kola_top.specs.Refusals.{Passes, Replies};
 ghost use Rattle.kola_top.specs.FormViews.{form_view};
-ghost use Rattle.kola_top.specs.Layout.{AreSections};
 ghost use Rattle.kola_top.specs.Report.{report_text};
 ghost use Rattle.kola_top.specs.Runs.{is_written};
 ghost use Rattle.kola_top.specs.SelectMeaning.{condition, is_below};
 ghost use Rattle.kola_top.specs.Words.{action_of};
 
-use crate::fault_lines::{database_line, schema_line};
 use crate::form::SelectForm;
 use crate::layout::sections;
-use crate::output::{Report, layout_fault_line, missing_line, query_line, report_text};
+use crate::output::{Report, report_text};
 use crate::query::query_of;
+use crate::refusal::Refusal;
 use crate::section::{Sections, Span};
 use crate::select::{literals_of, members_below, translate};
 use crate::select_laws::{select_is_evaluated_rightly, select_is_translated_rightly};
@@ -26,7 +27,7 @@ use crate::status::Status;
 use crate::words::Action;
 use kola_canon::push_set;
 use kola_core::Memory;
-use kola_load::{DbFault, SchemaFault, read_db, read_schema};
+use kola_load::{DbFault, read_db, read_schema};
 use kola_schema::Schema;
 use kola_term::{LitSet, Term};
 use kola_text::print_term;
@@ -111,72 +112,33 @@ fn text_in<'a>(job: &'a [u8], place: Option<Span>) -> &'a [u8]
     }
 }
 
-/// The answer of `run` to a job whose sections were found.
-fn run_answer(alloc: Global, job: &[u8], found: &Sections) -> Result<Reply, Memory>
-    requires length { length job.now ≤ greatest_length }
-    requires found { AreSections job.now found.now }
-    ensures { IfOk result (λ reply. RunAnswer job.now found.now reply.status reply.bytes.items) }
+/// Where the query's text lies.
+fn query_place(found: &Sections) -> Result<Span, Refusal>
+    requires { found.now.lines < u64.MAX }
+    ensures { Passes (at_place found.now) (λ p. p) result }
 {
-    let schema = text_in(job, found.schema);
-    let database = text_in(job, found.database);
     match found.query {
-        None => missing_answer(alloc, found.lines),
-        Some(span) => texts_answer(alloc, schema, database, &job[span.from..span.to]),
+        Some(place) => Ok(place),
+        None => Err(Refusal::NoQuery(found.lines + 1)),
     }
 }
 
-/// The answer to a job of so many lines that has no query.
-fn missing_answer(alloc: Global, lines: u64) -> Result<Reply, Memory>
-    requires { lines < u64.MAX }
-    ensures { IfOk result (λ reply. (reply.status ≡ Status.Layout) × (reply.bytes.items ≡ missing_line lines (codes "query"))) }
+/// The schema that a text writes.
+fn schema_of(alloc: Global, text: &[u8]) -> Result<Box<Schema>, Refusal>
+    ensures { Passes (at_schema text.now) (λ s. s.value) result }
 {
-    let line = missing_line(alloc, lines, "query")?;
-    Ok(Reply {
-        status: Status::Layout,
-        bytes: line.into_bytes(),
-    })
+    let schema = read_schema(alloc, text)?;
+    let schema = Box::new(alloc, schema)?;
+    Ok(schema)
 }
 
-/// The answer to the texts of a schema, a database and a query.
-fn texts_answer(
-    alloc: Global,
-    schema: &[u8],
-    database: &[u8],
-    query: &[u8],
-) -> Result<Reply, Memory>
-    ensures { IfOk result (λ reply. TextsAnswer schema.now database.now query.now reply.status reply.bytes.items) }
+/// The query that a text is.
+fn form_of<'a>(alloc: Global, text: &'a [u8]) -> Result<SelectForm<'a>, Refusal>
+    ensures { Passes (at_query text.now) form_view result }
 {
-    match read_schema(alloc, schema) {
-        Ok(schema) => query_answer(alloc, &schema, database, query),
-        Err(SchemaFault::Memory) => Err(AllocError),
-        Err(SchemaFault::At { at, why }) => {
-            let line = schema_line(alloc, at, why)?;
-            Ok(Reply {
-                status: Status::Schema,
-                bytes: line.into_bytes(),
-            })
-        }
-    }
-}
-
-/// The answer to the texts of a database and a query.
-fn query_answer(
-    alloc: Global,
-    schema: &Schema,
-    database: &[u8],
-    query: &[u8],
-) -> Result<Reply, Memory>
-    ensures { IfOk result (λ reply. QueryAnswer schema.now database.now query.now reply.status reply.bytes.items) }
-{
-    match query_of(alloc, query)? {
-        Some(form) => database_answer(alloc, schema, database, &form),
-        None => {
-            let line = query_line(alloc, 0, "NotBuilt")?;
-            Ok(Reply {
-                status: Status::Query,
-                bytes: line.into_bytes(),
-            })
-        }
+    match query_of(alloc, text)? {
+        Some(form) => Ok(form),
+        None => Err(Refusal::NotBuilt),
     }
 }
 
@@ -186,35 +148,29 @@ fn is_memory(fault: &DbFault) -> bool
     matches!(fault, DbFault::Memory)
 }
 
-/// The answer to a query of the form on the text of a database.
-fn database_answer(
-    alloc: Global,
-    schema: &Schema,
-    database: &[u8],
-    form: &SelectForm<'_>,
-) -> Result<Reply, Memory>
-    requires { 0 < length form.now.numbers.items }
-    ensures { IfOk result (λ reply. DatabaseAnswer schema.now database.now (form_view form.now) reply.status reply.bytes.items) }
+/// Reads the database that a text writes.
+fn database_of(alloc: Global, schema: &Schema, text: &[u8]) -> Result<(), Refusal>
+    ensures { Passes (at_database schema.now text.now) (λ _. tt) result }
 {
-    match read_db(alloc, schema, database) {
-        Ok(_database) => {
-            let bytes = report_on(alloc, form)?;
-            Ok(Reply {
-                status: Status::Ok,
-                bytes,
-            })
-        }
-        Err(fault) => {
-            if is_memory(&fault) {
-                return Err(AllocError);
-            }
-            let bytes = database_line(alloc, &fault)?;
-            Ok(Reply {
-                status: Status::Database,
-                bytes,
-            })
-        }
+    match read_db(alloc, schema, text) {
+        Ok(_database) => Ok(()),
+        Err(fault) if is_memory(&fault) => Err(Refusal::Memory),
+        Err(fault) => Err(Refusal::Database(fault)),
     }
+}
+
+/// The report on a job of no more than the greatest length, or the first refusal on its way: a line for each stage.
+fn report_of(alloc: Global, job: &[u8]) -> Result<Vec<u8>, Refusal>
+    requires { length job.now ≤ greatest_length }
+    ensures { Replies (λ v. v.items) (OnItsWay job.now) result }
+{
+    let found = sections(job)?;
+    let place = query_place(&found)?;
+    let schema = schema_of(alloc, text_in(job, found.schema))?;
+    let form = form_of(alloc, text_in(job, Some(place)))?;
+    database_of(alloc, &schema, text_in(job, found.database))?;
+    let bytes = report_on(alloc, &form)?;
+    Ok(bytes)
 }
 
 /// The answer to a job of no more than the greatest length.
@@ -224,17 +180,17 @@ pub fn answer_to(alloc: Global, action: Action, job: &[u8]) -> Result<Reply, Mem
         Answer words job.now reply.status reply.bytes.items) }
     ensures written { IfOk result (λ reply. IsTrue (is_written reply.status)) }
 {
-    match sections(job) {
-        Ok(found) => match action {
-            Action::Run => {
-                let reply = run_answer(alloc, job, &found)?;
-                Ok(reply)
-            }
-        },
-        Err(fault) => {
-            let bytes = layout_fault_line(alloc, fault)?.into_bytes();
+    let Action::Run = action;
+    match report_of(alloc, job) {
+        Ok(bytes) => Ok(Reply {
+            status: Status::Ok,
+            bytes,
+        }),
+        Err(Refusal::Memory) => Err(AllocError),
+        Err(refusal) => {
+            let bytes = refusal.line(alloc)?;
             Ok(Reply {
-                status: Status::Layout,
+                status: refusal.status(),
                 bytes,
             })
         }

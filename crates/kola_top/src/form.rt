@@ -5,7 +5,7 @@ ghost use Rattle.kola_top.specs.SelectForm.{IsReading};
 ghost use Rattle.kola_top.specs.FormReader.{Finds, word, sign, name, number, next_number, last_number, head, numbers, bound, form};
 ghost use Rattle.kola_top.specs.FormViews.{form_view, lexemes_view};
 
-use kola_load::is_name;
+use kola_base::is_name;
 use std::alloc::{AllocError, Global};
 
 /// What a token says.

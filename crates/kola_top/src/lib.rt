@@ -10,6 +10,7 @@ mod layout;
 mod lines;
 mod output;
 mod query;
+mod refusal;
 mod run;
 mod section;
 mod select;
@@ -19,7 +20,7 @@ mod status;
 mod tests;
 mod words;
 
-pub use answer_laws::a_job_has_one_answer;
+pub use answer_laws::{a_job_has_exactly_one_answer, answers_have_causes};
 pub use laws::{lexemes_say_one_form, lines_make_up_the_job};
 pub use layout::{LayoutFault, LayoutWhy, sections};
 pub use run::run_kola;

@@ -57,12 +57,10 @@ pub fn layout_fault_line(alloc: Global, fault: LayoutFault) -> Result<String, Al
     format!(in alloc; "fault: layout line {line}: {cause}\n")
 }
 
-/// The line of a section that is missing from a job of so many lines.
-pub fn missing_line(alloc: Global, lines: u64, section: &str) -> Result<String, AllocError>
-    requires { lines < u64.MAX }
-    ensures { IfOk result (λ s. string_bytes s ≡ missing_line lines section.now) }
+/// The line of a section that is missing, and would stand in this line of the job.
+pub fn missing_line(alloc: Global, line: u64, section: &str) -> Result<String, AllocError>
+    ensures { IfOk result (λ s. string_bytes s ≡ missing_line line section.now) }
 {
-    let line = lines + 1;
     format!(in alloc; "fault: layout line {line}: SectionMissing {section}\n")
 }
 

@@ -3,7 +3,7 @@
 ghost use Rattle.std.specs.Prelude.{◌≡◌, ◌++◌, IfOk, OnOk, All, option_map};
 ghost use Rattle.kola_base.specs.Lexemes.{lexeme_of, lexemes};
 ghost use Rattle.kola_base.specs.Tokens.{IsTokenIn};
-ghost use Rattle.kola_top.specs.Answer.{IsQueryReading};
+ghost use Rattle.kola_top.specs.Stages.{IsQueryReading};
 ghost use Rattle.kola_top.specs.FormViews.{form_view, lexemes_view};
 
 use crate::form::{Lexeme, SelectForm, read_form};

@@ -1,21 +1,19 @@
 //! The top call.
 
-ghost use Rattle.std.specs.Prelude.{◌≡◌, ◌⊎◌, ℕ, List, None, map, IfSome, IsTrue};
+ghost use Rattle.std.specs.Prelude.{◌≡◌, ◌⊎◌, ℕ, List, map, IfSome, IsTrue};
 ghost use Rattle.std.specs.Io.KnownBytes.{IsAtEnd};
 ghost use Rattle.std.specs.String.{string_bytes};
 ghost use Rattle.kola_base.specs.Causes.{Rose};
 ghost use Rattle.kola_top.specs.Answer.{Answer};
-ghost use Rattle.kola_top.specs.Causes.{IsTooLong, HasNoLayout, HasNoSchema, HasNoQuery, HasNoDatabase};
-ghost use Rattle.kola_top.specs.Runs.{Tells, Completes, Sent, is_written};
+ghost use Rattle.kola_top.specs.Runs.{AnswersUsage, Tells, Completes, Sent, is_written};
 ghost use Rattle.kola_top.specs.declared.status.Status.{Status};
-ghost use Rattle.kola_top.specs.Words.{action_of};
 
 use crate::answer::{Reply, answer_to};
 use crate::output::{too_long_line, usage_line};
 use crate::status::Status;
 use crate::words::action_of;
 use kola_base::{ReadAllFault, Sink, Source, read_all, write_all};
-use std::alloc::Global;
+use std::alloc::{AllocError, Global};
 
 /// The greatest length of a job, in bytes.
 const GREATEST_LENGTH: usize = 16_777_216;
@@ -31,44 +29,11 @@ fn write_answer<K: Sink>(sink: &mut K, status: Status, bytes: &[u8]) -> Status
     }
 }
 
-/// Reads the job that the words ask for and writes its answer.
-fn run_command<S: Source, K: Sink>(
-    alloc: Global,
-    words: &[String],
-    source: &mut S,
-    sink: &mut K,
-) -> Status
-    ensures usage { action_of (map string_bytes words.now) ≡ None → (result ≡ Status.Usage) ⊎ (result ≡ Status.WriteFault) }
-    ensures usage_only { result ≡ Status.Usage → action_of (map string_bytes words.now) ≡ None }
-    ensures unread { action_of (map string_bytes words.now) ≡ None → S.left source.new ≡ S.left source.old }
-    ensures read_fault { result ≡ Status.ReadFault → Rose (S.faults source.old) (S.faults source.new) }
-    ensures write_fault { result ≡ Status.WriteFault → Rose (K.faults sink.old) (K.faults sink.new) }
-    ensures silent { (result ≡ Status.ReadFault) ⊎ (result ≡ Status.Memory) → K.written sink.new ≡ K.written sink.old }
-    ensures answer { IfSome (S.left source.old) (λ job.
-        Tells (map string_bytes words.now) job (K.written sink.old) (K.written sink.new) result) }
-    ensures complete { IfSome (S.left source.old) (λ job. (status : Status) (bytes : List ℕ) →
-        Answer (map string_bytes words.now) job status bytes →
-        Completes status (S.faults source.old) (S.faults source.new) (K.faults sink.old) (K.faults sink.new) result) }
-    ensures to_the_end { result ≡ Status.Ok → IsAtEnd (S.left source.new) }
-{
-    let Some(action) = action_of(words) else {
-        return write_answer(sink, Status::Usage, usage_line());
-    };
-    match read_all(alloc, source, GREATEST_LENGTH) {
-        Ok(job) => match answer_to(alloc, action, &job) {
-            Ok(Reply { status, bytes }) => write_answer(sink, status, &bytes),
-            Err(_) => Status::Memory,
-        },
-        Err(ReadAllFault::TooLong) => write_answer(sink, Status::TooLong, too_long_line()),
-        Err(ReadAllFault::Read) => Status::ReadFault,
-        Err(ReadAllFault::Memory) => Status::Memory,
-    }
-}
-
 /// Does all that the program does: it reads the job that the words ask for, answers it, and says how it ended.
 ///
 /// The refusals come in the order words, reading, length, layout, a missing section, the schema's text, the query's text, the database's
-/// text; writing comes last. The whole answer is built before the first byte is written.
+/// text; writing comes last. The whole answer is built before the first byte is written. Each answer has its cause: see
+/// `answers_have_causes`.
 pub fn run_kola<S: Source, K: Sink>(
     alloc: Global,
     words: &[String],
@@ -76,9 +41,7 @@ pub fn run_kola<S: Source, K: Sink>(
     sink: &mut K,
 ) -> Status
     // The usage line is answered exactly where the words are no command, and then nothing is read.
-    ensures usage { action_of (map string_bytes words.now) ≡ None → (result ≡ Status.Usage) ⊎ (result ≡ Status.WriteFault) }
-    ensures usage_only { result ≡ Status.Usage → action_of (map string_bytes words.now) ≡ None }
-    ensures unread { action_of (map string_bytes words.now) ≡ None → S.left source.new ≡ S.left source.old }
+    ensures usage { AnswersUsage (map string_bytes words.now) source.old source.new result }
 
     // A failure of the source or the sink is answered only where its count rose in this call.
     ensures read_fault { result ≡ Status.ReadFault → Rose (S.faults source.old) (S.faults source.new) }
@@ -90,17 +53,25 @@ pub fn run_kola<S: Source, K: Sink>(
     // Of a source that tells its bytes: the status and the bytes that were written are those of the answer to the job.
     ensures answer { IfSome (S.left source.old) (λ job.
         Tells (map string_bytes words.now) job (K.written sink.old) (K.written sink.new) result) }
+
+    // Of a source that tells its bytes: the job's answer is given, or memory was wanted, or a count rose in this call.
     ensures complete { IfSome (S.left source.old) (λ job. (status : Status) (bytes : List ℕ) →
         Answer (map string_bytes words.now) job status bytes →
         Completes status (S.faults source.old) (S.faults source.new) (K.faults sink.old) (K.faults sink.new) result) }
-    ensures to_the_end { result ≡ Status.Ok → IsAtEnd (S.left source.new) }
 
-    // Of a source that tells its bytes, each refusal comes only where its cause does; `complete` says that it comes there.
-    ensures too_long { IfSome (S.left source.old) (λ job. result ≡ Status.TooLong → IsTooLong (map string_bytes words.now) job) }
-    ensures layout { IfSome (S.left source.old) (λ job. result ≡ Status.Layout → HasNoLayout (map string_bytes words.now) job) }
-    ensures schema { IfSome (S.left source.old) (λ job. result ≡ Status.Schema → HasNoSchema (map string_bytes words.now) job) }
-    ensures query { IfSome (S.left source.old) (λ job. result ≡ Status.Query → HasNoQuery (map string_bytes words.now) job) }
-    ensures database { IfSome (S.left source.old) (λ job. result ≡ Status.Database → HasNoDatabase (map string_bytes words.now) job) }
+    // A report was written of the whole job: a source that tells its bytes has none left.
+    ensures to_the_end { result ≡ Status.Ok → IsAtEnd (S.left source.new) }
 {
-    run_command(alloc, words, source, sink)
+    let Some(action) = action_of(words) else {
+        return write_answer(sink, Status::Usage, usage_line());
+    };
+    match read_all(alloc, source, GREATEST_LENGTH) {
+        Ok(job) => match answer_to(alloc, action, &job) {
+            Ok(Reply { status, bytes }) => write_answer(sink, status, &bytes),
+            Err(AllocError) => Status::Memory,
+        },
+        Err(ReadAllFault::TooLong) => write_answer(sink, Status::TooLong, too_long_line()),
+        Err(ReadAllFault::Read) => Status::ReadFault,
+        Err(ReadAllFault::Memory) => Status::Memory,
+    }
 }

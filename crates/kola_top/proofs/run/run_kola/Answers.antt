@@ -1,17 +1,43 @@
-use Rattle.kola_top.proofs.CauseLaws.{all_too_long, all_layout, all_schema, all_query, all_database}
+use Rattle.std.proofs.Common.{map, refl, sym}
+use Rattle.std.specs.String.{string_bytes}
+use Rattle.kola_top.specs.declared.status.Status.TheVariants as statuses
+use Rattle.kola_top.proofs.RunLaws.{silent, usage_only, all_tell, all_complete, all_usage, all_long, all_too_long, all_replied}
 use Rattle.kola_top.proofs.run.run_kola.Goals as goal
 
-pub returns-clause-too_long : goal.returns-clause-too_long
-returns-clause-too_long g c = all_too_long _ _ _ _ _ c.run_command.ensures.answer
+pub returns-in_default-clause-answer : goal.returns-in_default-clause-answer
+returns-in_default-clause-answer g c =
+    all_tell _ _ _ _ _ _ statuses.Usage _ _ refl (all_usage _ _ _ (sym c.in_default.ensures) c.usage_line.ensures) c.write_answer.ensures
 
-pub returns-clause-layout : goal.returns-clause-layout
-returns-clause-layout g c = all_layout _ _ _ _ _ c.run_command.ensures.answer
+pub returns-in_default-clause-complete : goal.returns-in_default-clause-complete
+returns-in_default-clause-complete g c =
+    all_complete _ _ _ _ _ _ _ _ _ _ _ (all_usage _ _ _ (sym c.in_default.ensures) c.usage_line.ensures) c.write_answer.ensures
 
-pub returns-clause-schema : goal.returns-clause-schema
-returns-clause-schema g c = all_schema _ _ _ _ _ c.run_command.ensures.answer
+pub returns-in-Ok-answer_to-clause-usage_only : goal.returns-in-Ok-answer_to-clause-usage_only
+returns-in-Ok-answer_to-clause-usage_only g c =
+    usage_only _ _ _ _ _ _ _ _ _ _ (c.in-Ok-answer_to.ensures.answer (map string_bytes c.args.words.now) (sym c.in-Some.ensures)) c.write_answer-in-Ok-answer_to.ensures
 
-pub returns-clause-query : goal.returns-clause-query
-returns-clause-query g c = all_query _ _ _ _ _ c.run_command.ensures.answer
+pub returns-in-Ok-answer_to-clause-silent : goal.returns-in-Ok-answer_to-clause-silent
+returns-in-Ok-answer_to-clause-silent g c =
+    silent _ _ _ _ _ _ _ c.in-Ok-answer_to.ensures.written c.write_answer-in-Ok-answer_to.ensures
 
-pub returns-clause-database : goal.returns-clause-database
-returns-clause-database g c = all_database _ _ _ _ _ c.run_command.ensures.answer
+pub returns-in-Ok-answer_to-clause-answer : goal.returns-in-Ok-answer_to-clause-answer
+returns-in-Ok-answer_to-clause-answer g c =
+    let answer = c.in-Ok-answer_to.ensures.answer (map string_bytes c.args.words.now) (sym c.in-Some.ensures) in
+    let due = all_replied _ _ _ _ _ _ _ c.in-Ok.ensures.whole c.deref.ensures.value answer c.deref-in-Ok-answer_to.ensures.value in
+    all_tell _ _ _ _ _ _ _ _ _ c.in-Ok-answer_to.ensures.written due c.write_answer-in-Ok-answer_to.ensures
+
+pub returns-in-Ok-answer_to-clause-complete : goal.returns-in-Ok-answer_to-clause-complete
+returns-in-Ok-answer_to-clause-complete g c =
+    let answer = c.in-Ok-answer_to.ensures.answer (map string_bytes c.args.words.now) (sym c.in-Some.ensures) in
+    let due = all_replied _ _ _ _ _ _ _ c.in-Ok.ensures.whole c.deref.ensures.value answer c.deref-in-Ok-answer_to.ensures.value in
+    all_complete _ _ _ _ _ _ _ _ _ _ _ due c.write_answer-in-Ok-answer_to.ensures
+
+pub returns-in-Err-TooLong-clause-answer : goal.returns-in-Err-TooLong-clause-answer
+returns-in-Err-TooLong-clause-answer g c =
+    let due = all_too_long _ _ _ _ (sym c.in-Some.ensures) (all_long _ _ c.in-Err-TooLong.field-0-is c.in-Err-TooLong.ensures.whole) c.too_long_line.ensures in
+    all_tell _ _ _ _ _ _ statuses.TooLong _ _ refl due c.write_answer-in-Err-TooLong.ensures
+
+pub returns-in-Err-TooLong-clause-complete : goal.returns-in-Err-TooLong-clause-complete
+returns-in-Err-TooLong-clause-complete g c =
+    let due = all_too_long _ _ _ _ (sym c.in-Some.ensures) (all_long _ _ c.in-Err-TooLong.field-0-is c.in-Err-TooLong.ensures.whole) c.too_long_line.ensures in
+    all_complete _ _ _ _ _ _ _ _ _ _ _ due c.write_answer-in-Err-TooLong.ensures

@@ -1,0 +1,24 @@
+//! The public calls of the crates below, each with ample memory and its answer compared: what no clause says. Nothing else
+//! stands here.
+#![tactic(auto)]
+
+#[cfg(test)]
+mod canonical;
+#[cfg(test)]
+mod databases;
+#[cfg(test)]
+mod jobs;
+#[cfg(test)]
+mod names;
+#[cfg(test)]
+mod samples;
+#[cfg(test)]
+mod schemas;
+#[cfg(test)]
+mod streams;
+#[cfg(test)]
+mod terms;
+#[cfg(test)]
+mod texts;
+#[cfg(test)]
+mod typing;

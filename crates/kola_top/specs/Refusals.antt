@@ -1,0 +1,55 @@
+-- Why a job has no report, in the words of its answer; and what a call on the way to the report says.
+use Rattle.std.specs.Prelude.{◌≡◌, ℕ, List, Result, Ok, Err, codes}
+use Rattle.kola_load.specs.declared.schema_fault.SchemaFault.{SchemaFault}
+use Rattle.kola_load.specs.declared.schema_fault.SchemaFault.TheVariants as schema
+use Rattle.kola_load.specs.declared.fault.DbFault.{DbFault}
+use Rattle.kola_load.specs.declared.fault.DbFault.TheVariants as db
+use Rattle.kola_top.specs.declared.refusal.Refusal.{Refusal}
+use Rattle.kola_top.specs.declared.refusal.Refusal.TheVariants.{Layout, NoQuery, Schema, NotBuilt, Database, Memory}
+use Rattle.kola_top.specs.declared.status.Status.{Status}
+use Rattle.kola_top.specs.declared.status.Status.TheVariants as statuses
+use Rattle.kola_top.specs.FaultLines.{layout_fault_line, missing_line, not_built_line, schema_line, database_line}
+use Rattle.kola_top.specs.Staged.{Says, Stage}
+
+abbrev pub of_schema : SchemaFault → Refusal
+of_schema (schema.At at why) = Schema at why
+of_schema schema.Memory = Memory
+
+abbrev pub of_database : DbFault → Refusal
+of_database db.Memory = Memory
+of_database f = Database f
+
+abbrev pub status_of : Refusal → Status
+status_of (Layout f) = statuses.Layout
+status_of (NoQuery line) = statuses.Layout
+status_of (Schema at why) = statuses.Schema
+status_of NotBuilt = statuses.Query
+status_of (Database f) = statuses.Database
+status_of Memory = statuses.Memory
+
+abbrev pub line_of : Refusal → List ℕ
+line_of (Layout f) = layout_fault_line f
+line_of (NoQuery line) = missing_line line (codes "query")
+line_of (Schema at why) = schema_line at why
+line_of NotBuilt = not_built_line
+line_of (Database f) = database_line f
+line_of Memory = codes ""
+
+-- a refusal says its answer; want of memory says nothing
+abbrev pub Refuses : Says → Refusal → Type 0
+Refuses A Memory = Unit {0}
+Refuses A r = A (status_of r) (line_of r)
+
+-- a call on the way says the report or a refusal
+abbrev pub Replies : {T : Type 0} → (T → List ℕ) → Says → Result T Refusal → Type 0
+Replies view A (Ok bytes) = A statuses.Ok (view bytes)
+Replies view A (Err r) = Refuses A r
+
+-- a refusal of a stage: it has the status and the bytes of one
+abbrev pub IsOf : {F R : Type 0} → Stage F R → Status → List ℕ → Type 0
+IsOf g s b = (e : F) × g.refuses e × (s ≡ g.status e) × (b ≡ g.bytes e)
+
+-- a call answers as a stage does
+abbrev pub Passes : {F R T : Type 0} → Stage F R → (T → R) → Result T Refusal → Type 0
+Passes g view (Ok x) = g.accepts (view x)
+Passes g view (Err r) = Refuses (IsOf g) r

@@ -1,0 +1,82 @@
+-- What of a job has been accepted: a record for each stage on the way of a job, which begins with the stage before it.
+use Rattle.std.specs.Prelude.{◌≡◌, ℕ, ◌≤◌, Option, List, [], length, slice_range, Some, None, Ok}
+use Rattle.kola_top.specs.declared.section.Span.{Span}
+use Rattle.kola_top.specs.declared.section.Sections.{Sections}
+use Rattle.kola_top.specs.declared.words.Action.{Action}
+use Rattle.kola_top.specs.Words.{action_of}
+use Rattle.kola_top.specs.Layout.{AreSections}
+use Rattle.kola_base.specs.declared.lex.Token.{Token}
+use Rattle.kola_base.specs.Tokens.{AreTokens}
+use Rattle.kola_base.specs.Lexemes.{lexemes}
+use Rattle.kola_top.specs.SelectForm.{SelectForm, Says}
+use Rattle.kola_values.specs.Databases.{Classes, Objects}
+use Rattle.serde_json.specs.Data.{Data}
+use Rattle.kola_load.specs.Loading.{db_of}
+use Rattle.kola_load.specs.Loaded.{Reads}
+use Rattle.kola_load.specs.SchemaAccepted.{greatest_nesting, Writes}
+
+-- the greatest length of a job, in bytes
+abbrev pub greatest_length : ℕ
+greatest_length = 16777216
+
+-- the text of a section
+abbrev pub text_at : List ℕ → Span → List ℕ
+text_at job p = slice_range job p.from p.to
+
+-- the text of a section; one that is absent is empty
+abbrev pub text_in : List ℕ → Option Span → List ℕ
+text_in job None = []
+text_in job (Some p) = text_at job p
+
+-- the text is a query of the form: its tokens say one
+pub record IsQuery (text : List ℕ) (f : SelectForm) : Type 0 where
+  pub tokens : List Token
+  pub lexed : AreTokens tokens text
+  pub says : Says (lexemes text tokens) f
+
+-- the text is no query of the form
+abbrev pub IsNoQuery : List ℕ → Type 0
+IsNoQuery text = (f : SelectForm) → IsQuery text f → ⊥
+
+-- the query of the form that a text is, if it is one
+abbrev pub IsQueryReading : List ℕ → Option SelectForm → Type 0
+IsQueryReading text (Some f) = IsQuery text f
+IsQueryReading text None = IsNoQuery text
+
+-- the words are a command, and the job is no longer than it may be
+pub record IsTaken (words : List (List ℕ)) (job : List ℕ) : Type 0 where
+  pub action : Action
+  pub command : action_of words ≡ Some action
+  pub is_short : length job ≤ greatest_length
+
+-- no line is faulty, and these are the places of the sections
+pub record IsLaidOut (words : List (List ℕ)) (job : List ℕ) : Type 0 where
+  pub before : IsTaken words job
+  pub found : Sections
+  pub sections : AreSections job found
+
+-- the section of the query, which is needed, is there
+pub record HasSections (words : List (List ℕ)) (job : List ℕ) : Type 0 where
+  pub before : IsLaidOut words job
+  pub place : Span
+  pub query : before.found.query ≡ Some place
+
+-- the schema's text writes these classes
+pub record HasSchema (words : List (List ℕ)) (job : List ℕ) : Type 0 where
+  pub before : HasSections words job
+  pub classes : Classes
+  pub writes : Writes greatest_nesting (text_in job before.before.found.schema) classes
+
+-- the query's text is this query
+pub record HasQuery (words : List (List ℕ)) (job : List ℕ) : Type 0 where
+  pub before : HasSchema words job
+  pub form : SelectForm
+  pub is : IsQuery (text_at job before.before.place) form
+
+-- the database's text reads as this value, which writes these objects
+pub record HasDatabase (words : List (List ℕ)) (job : List ℕ) : Type 0 where
+  pub before : HasQuery words job
+  pub value : Data
+  pub objects : Objects
+  pub reads : Reads (text_in job before.before.before.before.found.database) value
+  pub writes : db_of before.before.classes value ≡ Ok objects

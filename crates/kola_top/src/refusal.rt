@@ -1,0 +1,106 @@
+//! Why a job has no report, with the status and the line of each refusal.
+
+ghost use Rattle.std.specs.Prelude.{◌≡◌, IfOk};
+ghost use Rattle.kola_top.specs.FaultLines.{not_built_line};
+ghost use Rattle.kola_top.specs.Refusals.{status_of, line_of};
+
+use crate::fault_lines::{database_line, schema_line};
+use crate::layout::LayoutFault;
+use crate::output::{layout_fault_line, missing_line, query_line};
+use crate::status::Status;
+use kola_core::Memory;
+use kola_load::{DbFault, SchemaFault, SchemaWhy};
+use std::alloc::{AllocFailed, Global};
+
+/// Why a job has no report: the first refusal on its way.
+#[derive(Drop)]
+pub enum Refusal {
+    /// A line breaks the layout.
+    Layout(LayoutFault),
+    /// The section of the query, which is needed, would stand in this line, behind the last.
+    NoQuery(u64),
+    /// The schema's text is refused, at a place in it.
+    Schema(usize, SchemaWhy),
+    /// The query is none of those that can be answered.
+    NotBuilt,
+    /// The database's text is refused.
+    Database(DbFault),
+    /// Memory is wanted.
+    Memory,
+}
+
+impl From<LayoutFault> for Refusal {
+    ghost use Rattle.std.specs.Prelude.{◌≡◌};
+    ghost use Rattle.kola_top.specs.declared.refusal.Refusal.TheVariants.{Layout};
+
+    ghost from_gives = { λ fault r. r ≡ Layout fault };
+
+    fn from(fault: LayoutFault) -> Refusal {
+        Refusal::Layout(fault)
+    }
+}
+
+impl From<SchemaFault> for Refusal {
+    ghost use Rattle.std.specs.Prelude.{◌≡◌};
+    ghost use Rattle.kola_top.specs.Refusals.{of_schema};
+
+    ghost from_gives = { λ fault r. r ≡ of_schema fault };
+
+    fn from(fault: SchemaFault) -> Refusal {
+        match fault {
+            SchemaFault::At { at, why } => Refusal::Schema(at, why),
+            SchemaFault::Memory => Refusal::Memory,
+        }
+    }
+}
+
+impl From<Memory> for Refusal {
+    ghost use Rattle.std.specs.Prelude.{◌≡◌};
+    ghost use Rattle.kola_top.specs.declared.refusal.Refusal.TheVariants.{Memory};
+
+    ghost from_gives = { λ _ r. r ≡ Memory };
+
+    fn from(_refused: Memory) -> Refusal {
+        Refusal::Memory
+    }
+}
+
+impl<T: Drop> From<AllocFailed<T>> for Refusal {
+    ghost use Rattle.std.specs.Prelude.{◌≡◌};
+    ghost use Rattle.kola_top.specs.declared.refusal.Refusal.TheVariants.{Memory};
+
+    ghost from_gives = { λ _ r. r ≡ Memory };
+
+    fn from(_refused: AllocFailed<T>) -> Refusal {
+        Refusal::Memory
+    }
+}
+
+impl Refusal {
+    /// The status with which the program then ends.
+    pub fn status(&self) -> Status
+        ensures { result ≡ status_of self.now }
+    {
+        match self {
+            Refusal::Layout(_) | Refusal::NoQuery(_) => Status::Layout,
+            Refusal::Schema(_, _) => Status::Schema,
+            Refusal::NotBuilt => Status::Query,
+            Refusal::Database(_) => Status::Database,
+            Refusal::Memory => Status::Memory,
+        }
+    }
+
+    /// The line that is then written; none where memory is wanted.
+    pub fn line(&self, alloc: Global) -> Result<Vec<u8>, Memory>
+        ensures { IfOk result (λ v. v.items ≡ line_of self.now) }
+    {
+        match self {
+            Refusal::Layout(fault) => Ok(layout_fault_line(alloc, *fault)?.into_bytes()),
+            Refusal::NoQuery(line) => Ok(missing_line(alloc, *line, "query")?.into_bytes()),
+            Refusal::Schema(at, why) => Ok(schema_line(alloc, *at, *why)?.into_bytes()),
+            Refusal::NotBuilt => Ok(query_line(alloc, 0, "NotBuilt")?.into_bytes()),
+            Refusal::Database(fault) => database_line(alloc, fault),
+            Refusal::Memory => Ok(Vec::new(alloc)),
+        }
+    }
+}

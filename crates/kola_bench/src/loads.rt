@@ -1,11 +1,12 @@
 //! The loads.
 
-use kola_core::{Memory, Name, Names, Text};
-use kola_database::{Db, ObjectDef};
-use kola_schema::{ClassDef, Keys, Schema, classes_ok};
+use kola_core::{Memory, Name, Text};
+use kola_database::{Db, ObjectDef, ObjectsRefused};
+use kola_load::{SchemaFault, read_schema};
+use kola_schema::Schema;
 use kola_term::{Fun, MetaCtx, Term, TypeFault, make, out_type};
 use kola_text::{TextFault, print_term, read_term};
-use kola_values::{Fields, Set, Ty, Value, ValueFields};
+use kola_values::{BoxedTy, Set, Ty, Value, ValueFields};
 use std::alloc::{AllocError, Global};
 
 /// The count that a load of this name and size answers; none where no load has the name.
@@ -51,70 +52,93 @@ fn union_of_two(alloc: Global, n: u32) -> Result<usize, Memory> {
     Ok(first.union(&second)?.len())
 }
 
-fn name(alloc: Global, text: &str) -> Result<Name, Memory> {
-    Name::from_text(alloc, text)
-}
-
-fn key(alloc: Global, attributes: &[&str]) -> Result<Names, Memory> {
-    let mut names = Names::new(alloc);
-    for a in attributes {
-        names.push(name(alloc, a)?)?;
-    }
-    Ok(names)
-}
-
-/// A class of parts, with a number and two names, and two keys: the number, and both names.
-fn part(alloc: Global) -> Result<ClassDef, Memory> {
-    let mut attributes = Fields::new(alloc);
-    attributes.push((name(alloc, "number")?, Ty::Int))?;
-    attributes.push((name(alloc, "first")?, Ty::Str))?;
-    attributes.push((name(alloc, "last")?, Ty::Str))?;
-    let next = Ty::set_of(alloc, Ty::Class(name(alloc, "Part")?))?;
-    attributes.push((name(alloc, "next")?, next))?;
-    let mut keys = Keys::new(alloc);
-    keys.push(key(alloc, &["number"])?)?;
-    keys.push(key(alloc, &["first", "last"])?)?;
-    Ok(ClassDef {
-        name: name(alloc, "Part")?,
-        extent: name(alloc, "Parts")?,
-        attributes,
-        keys,
-    })
-}
+/// The schema of parts, with a number and two names, and two keys: the number, and both names.
+const PARTS: &[u8] = b"class Part (extent Parts, key number, key (first, last)) {
+    attribute int number; attribute string first; attribute string last; attribute set<Part> next;
+};";
 
 /// The schema of parts; none where it is no schema.
-fn parts(alloc: Global) -> Result<Option<Schema>, Memory> {
-    let mut classes = Vec::new(alloc);
-    classes.push(part(alloc)?)?;
-    if !classes_ok(classes.as_slice()) {
-        return Ok(None);
+fn parts(alloc: Global) -> Result<Option<Box<Schema>>, Memory> {
+    match read_schema(alloc, PARTS) {
+        Ok(schema) => Ok(Some(Box::new(alloc, schema)?)),
+        Err(SchemaFault::At { .. }) => Ok(None),
+        Err(SchemaFault::Memory) => Err(AllocError),
     }
-    let schema = Schema::make(alloc, classes)?;
-    Ok(Some(schema))
 }
 
-fn text(alloc: Global, n: u32) -> Result<Value, Memory> {
-    let text = Text::from_text(alloc, format!(in alloc; "part {n}")?.as_str())?;
-    Ok(Value::Str(text))
+/// The names that each part has, made once and shared.
+#[derive(Drop)]
+struct Labels {
+    part: Name,
+    number: Name,
+    first: Name,
+    last: Name,
+    next: Name,
 }
 
-/// The part of this id, of n, which names the part before it.
-fn part_of(alloc: Global, id: u32) -> Result<ObjectDef, Memory> {
-    let mut next = Vec::new(alloc);
-    next.push(Value::Obj(name(alloc, "Part")?, id / 2 + 1))?;
-    let mut values = ValueFields::new(alloc);
-    values.push((name(alloc, "number")?, Value::Int(mixed(id))))?;
-    values.push((name(alloc, "first")?, text(alloc, id / 100)?))?;
-    values.push((name(alloc, "last")?, text(alloc, id % 100)?))?;
-    values.push((
-        name(alloc, "next")?,
-        Value::Set(Set::from_members(alloc, next)?),
-    ))?;
-    Ok(ObjectDef {
-        class: name(alloc, "Part")?,
-        id,
-        values,
+fn labels(alloc: Global) -> Result<Labels, Memory> {
+    let part = Name::from_text(alloc, "Part")?;
+    let number = Name::from_text(alloc, "number")?;
+    let first = Name::from_text(alloc, "first")?;
+    let last = Name::from_text(alloc, "last")?;
+    let next = Name::from_text(alloc, "next")?;
+    Ok(Labels {
+        part,
+        number,
+        first,
+        last,
+        next,
     })
+}
+
+fn push_value(values: &mut ValueFields, label: &Name, value: Value) -> Result<(), Memory> {
+    let label = label.copy()?;
+    values.push((label, value))
+}
+
+fn push_text(alloc: Global, values: &mut ValueFields, label: &Name, n: u32) -> Result<(), Memory> {
+    let text = Text::from_string(format!(in alloc; "part {n}")?)?;
+    push_value(values, label, Value::Str(text))
+}
+
+/// The set of the one part of this id.
+fn push_part(
+    alloc: Global,
+    values: &mut ValueFields,
+    labels: &Labels,
+    id: u32,
+) -> Result<(), Memory> {
+    let part = labels.part.copy()?;
+    let mut members = Vec::new(alloc);
+    members.push(Value::Obj(part, id))?;
+    let set = Set::from_members(alloc, members)?;
+    push_value(values, &labels.next, Value::Set(set))
+}
+
+/// The values of the part of this id, which names a part before it.
+fn values_of(alloc: Global, labels: &Labels, id: u32) -> Result<ValueFields, Memory> {
+    let mut values = ValueFields::new(alloc);
+    push_value(&mut values, &labels.number, Value::Int(mixed(id)))?;
+    push_text(alloc, &mut values, &labels.first, id / 100)?;
+    push_text(alloc, &mut values, &labels.last, id % 100)?;
+    push_part(alloc, &mut values, labels, id / 2 + 1)?;
+    Ok(values)
+}
+
+fn part_of(alloc: Global, labels: &Labels, id: u32) -> Result<ObjectDef, Memory> {
+    let class = labels.part.copy()?;
+    let values = values_of(alloc, labels, id)?;
+    Ok(ObjectDef { class, id, values })
+}
+
+/// The parts of the ids n, n - 1 and so on down to 1.
+fn objects(alloc: Global, n: u32) -> Result<Vec<ObjectDef>, Memory> {
+    let labels = labels(alloc)?;
+    let mut objects = Vec::new(alloc);
+    for k in 0..n {
+        objects.push(part_of(alloc, &labels, n - k)?)?;
+    }
+    Ok(objects)
 }
 
 /// The objects of a database of n objects with two keys, made in falling order of their ids, where it is accepted; else 0.
@@ -122,39 +146,30 @@ fn database(alloc: Global, n: u32) -> Result<usize, Memory> {
     let Some(schema) = parts(alloc)? else {
         return Ok(0);
     };
-    let mut objects = Vec::new(alloc);
-    for k in 0..n {
-        objects.push(part_of(alloc, n - k)?)?;
+    match Db::try_make(alloc, &schema, objects(alloc, n)?) {
+        Ok(db) => Ok(db.extent_at(0).map_or(0, |set| set.len())),
+        Err(ObjectsRefused::NotMet) => Ok(0),
+        Err(ObjectsRefused::Memory) => Err(AllocError),
     }
-    let Ok(db) = Db::try_make(alloc, &schema, objects) else {
-        return Ok(0);
-    };
-    let extent = name(alloc, "Parts")?;
-    Ok(db.extent(&extent).map_or(0, |set| set.len()))
 }
 
 /// A function of at most so many nodes: compositions of compositions, down to `<snd, fst>`.
-fn composed(alloc: Global, nodes: u32) -> Result<Fun, Memory> {
+fn composed(alloc: Global, nodes: u32) -> Result<Box<Fun>, Memory> {
     if nodes < 7 {
-        return make::pair(alloc, Fun::Snd, Fun::Fst);
+        return Ok(Box::new(alloc, make::pair(alloc, Fun::Snd, Fun::Fst)?)?);
     }
     let rest = nodes - 1;
     let left = composed(alloc, rest / 2)?;
     let right = composed(alloc, rest - rest / 2)?;
-    make::comp(alloc, left, right)
+    Ok(Box::new(alloc, Fun::Comp(left, right))?)
 }
 
-/// How often a function of at most n nodes was typed, of a hundred times.
-fn typing(alloc: Global, n: u32) -> Result<usize, Memory> {
-    let Some(schema) = parts(alloc)? else {
-        return Ok(0);
-    };
-    let f = composed(alloc, n)?;
-    let input = Ty::pair_of(alloc, Ty::Int, Ty::Int)?;
+/// How often the function is typed at the type of two numbers, of a hundred times.
+fn typed_often(alloc: Global, schema: &Schema, f: &Fun, input: &Ty) -> Result<usize, Memory> {
     let ctx = MetaCtx::new(alloc);
     let mut typed: usize = 0;
     for _ in 0..100 {
-        match out_type(alloc, &schema, &ctx, &f, &input) {
+        match out_type(alloc, schema, &ctx, f, input) {
             Ok(_) => typed = typed.saturating_add(1),
             Err(TypeFault::At { .. }) => {}
             Err(TypeFault::Memory) => return Err(AllocError),
@@ -163,10 +178,20 @@ fn typing(alloc: Global, n: u32) -> Result<usize, Memory> {
     Ok(typed)
 }
 
+/// How often a function of at most n nodes is typed, of a hundred times.
+fn typing(alloc: Global, n: u32) -> Result<usize, Memory> {
+    let Some(schema) = parts(alloc)? else {
+        return Ok(0);
+    };
+    let f = composed(alloc, n)?;
+    let input = BoxedTy::new(alloc, Ty::pair_of(alloc, Ty::Int, Ty::Int)?)?;
+    typed_often(alloc, &schema, &f, input.get())
+}
+
 /// A function of at most n nodes as text.
 fn composed_text(alloc: Global, n: u32) -> Result<Vec<u8>, Memory> {
-    let term = Term::F(composed(alloc, n)?);
-    print_term(alloc, &term)
+    let f = composed(alloc, n)?;
+    print_term(alloc, &Term::F(Box::into_inner(f)))
 }
 
 /// A text of a term, read and printed again; empty where it is none.

@@ -35,7 +35,8 @@ fn cmp_at(o: &ObjectDef, a: &Name, p: &ObjectDef, b: &Name) -> Ordering
 }
 
 fn cmp_at_keys(o: &ObjectDef, key: &[Name], p: &ObjectDef, other: &[Name]) -> Ordering
-    ensures { result ≡ slice_cmp cmp (map (λ a. value_at_name (object_tree o.now) a) key.now) (map (λ a. value_at_name (object_tree p.now) a) other.now) }
+    ensures { result ≡ slice_cmp cmp (map (λ a. value_at_name (object_tree o.now) a) key.now)
+        (map (λ a. value_at_name (object_tree p.now) a) other.now) }
 {
     for i in 0..key.len().min(other.len()) {
         match cmp_at(o, &key[i], p, &other[i]) {
@@ -69,7 +70,8 @@ fn push_keys<'a>(
     object: &'a ObjectDef,
     keys: &'a [Names],
 ) -> Result<(), Memory>
-    ensures { OnOk result (map keyed_tree list.new.items ≡ map keyed_tree list.old.items ++ keyed_from (object_tree object.now) 0 keys.now) }
+    ensures { OnOk result (map keyed_tree list.new.items ≡ map keyed_tree list.old.items
+        ++ keyed_from (object_tree object.now) 0 keys.now) }
 {
     for place in 0..keys.len() {
         let key = &keys[place];
@@ -83,7 +85,8 @@ fn push_object<'a>(
     schema: &'a Schema,
     object: &'a ObjectDef,
 ) -> Result<(), Memory>
-    ensures { OnOk result (map keyed_tree list.new.items ≡ map keyed_tree list.old.items ++ all_keyed (class_named schema.now object.now.class) (object_tree object.now)) }
+    ensures { OnOk result (map keyed_tree list.new.items ≡ map keyed_tree list.old.items
+        ++ all_keyed (class_named schema.now object.now.class) (object_tree object.now)) }
 {
     match schema.class_named(&object.class) {
         Some(class) => push_keys(list, object, class.keys.as_slice()),

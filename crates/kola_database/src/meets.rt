@@ -44,7 +44,8 @@ pub(crate) fn value_of<'a>(object: &'a ObjectDef, a: &Name) -> Option<&'a Value>
 // ---- an object and its class
 
 fn is_value_of<H: Holds>(objects: &H, types: &[(Name, Ty)], entry: &(Name, Value)) -> bool
-    ensures { result ≡ is_value_of (H.there objects.now) (look_up entry.now.0 (map type_entry types.now)) (value_tree entry.now.1) }
+    ensures { result ≡ is_value_of (H.there objects.now) (look_up entry.now.0 (map type_entry types.now))
+        (value_tree entry.now.1) }
 {
     match type_of(types, &entry.0) {
         Some(t) => is_of_type(objects, &entry.1, t),
@@ -53,7 +54,8 @@ fn is_value_of<H: Holds>(objects: &H, types: &[(Name, Ty)], entry: &(Name, Value
 }
 
 fn are_typed<H: Holds>(objects: &H, types: &[(Name, Ty)], values: &[(Name, Value)]) -> bool
-    ensures { result ≡ list_all (λ e. is_value_of (H.there objects.now) (look_up e.0 (map type_entry types.now)) (value_tree e.1)) values.now }
+    ensures { result ≡ list_all
+        (λ e. is_value_of (H.there objects.now) (look_up e.0 (map type_entry types.now)) (value_tree e.1)) values.now }
 {
     values
         .iter()
@@ -78,7 +80,8 @@ fn fits_class<H: Holds>(objects: &H, class: &ClassDef, object: &ObjectDef) -> bo
 }
 
 fn fits<H: Holds>(schema: &Schema, objects: &H, object: &ObjectDef) -> bool
-    ensures { result ≡ fits_class (H.there objects.now) (class_named schema.now object.now.class) (object_tree object.now) }
+    ensures { result ≡ fits_class (H.there objects.now) (class_named schema.now object.now.class)
+        (object_tree object.now) }
 {
     match schema.class_named(&object.class) {
         Some(class) => fits_class(objects, class, object),
@@ -87,7 +90,8 @@ fn fits<H: Holds>(schema: &Schema, objects: &H, object: &ObjectDef) -> bool
 }
 
 fn all_fit<H: Holds>(schema: &Schema, there: &H, objects: &[ObjectDef]) -> bool
-    ensures { result ≡ list_all (λ o. fits_class (H.there there.now) (class_named schema.now o.class) (object_tree o)) objects.now }
+    ensures { result ≡ list_all
+        (λ o. fits_class (H.there there.now) (class_named schema.now o.class) (object_tree o)) objects.now }
 {
     objects.iter().all(|object| fits(schema, there, object))
 }
@@ -110,7 +114,8 @@ fn agree_on(o: &ObjectDef, p: &ObjectDef, key: &Names) -> bool
 }
 
 fn agree_on_some(o: &ObjectDef, p: &ObjectDef, keys: &[Names]) -> bool
-    ensures { result ≡ list_any (λ key. list_all (λ a. agree_at (object_tree o.now) (object_tree p.now) a) key) keys.now }
+    ensures { result ≡ list_any
+        (λ key. list_all (λ a. agree_at (object_tree o.now) (object_tree p.now) a) key) keys.now }
 {
     keys.iter().any(|key| agree_on(o, p, key))
 }
@@ -122,7 +127,8 @@ fn clash(class: &ClassDef, o: &ObjectDef, p: &ObjectDef) -> bool
 }
 
 fn clashes(schema: &Schema, o: &ObjectDef, others: &[ObjectDef]) -> bool
-    ensures { result ≡ list_any (λ p. clash (class_named schema.now o.now.class) (object_tree o.now) (object_tree p)) others.now }
+    ensures { result ≡ list_any
+        (λ p. clash (class_named schema.now o.now.class) (object_tree o.now) (object_tree p)) others.now }
 {
     match schema.class_named(&o.class) {
         Some(class) => others.iter().any(|p| clash(class, o, p)),
@@ -210,7 +216,8 @@ pub fn objects_ok(schema: &Schema, objects: &[ObjectDef]) -> bool
 // The database of objects, or nothing where they do not meet the schema.
 fn made(alloc: Global, schema: &Schema, objects: Vec<ObjectDef>) -> Result<Option<Db>, Memory>
     ensures { IfOk result (λ r. MatchOption r (Meets schema.now (map object_tree objects.items) → ⊥)
-        (λ db. IsUnder schema.now db × IsPermutation (map object_tree objects.items) db.objects × Meets schema.now (map object_tree objects.items))) }
+        (λ db. IsUnder schema.now db × IsPermutation (map object_tree objects.items) db.objects
+        × Meets schema.now (map object_tree objects.items))) }
 {
     let mut objects = objects;
     objects.sort_unstable_by(|o, p| cmp_objects(o, p));
@@ -243,7 +250,8 @@ impl Db {
         ensures under { IfOk result (λ db. IsUnder schema.now db) }
         ensures objects { IfOk result (λ db. IsPermutation (map object_tree objects.items) db.objects) }
         ensures met { OnOk result (Meets schema.now (map object_tree objects.items)) }
-        ensures not_met { IfErr result (λ e. e ≡ refused.NotMet → Meets schema.now (map object_tree objects.items) → ⊥) }
+        ensures not_met { IfErr result
+            (λ e. e ≡ refused.NotMet → Meets schema.now (map object_tree objects.items) → ⊥) }
     {
         let Ok(made) = made(alloc, schema, objects) else {
             return Err(ObjectsRefused::Memory);

@@ -125,7 +125,8 @@ fn are_of_type<H: Holds>(objects: &H, members: &[Value], t: &Ty) -> bool
 
 #[cycle(typed)]
 fn are_of_types<H: Holds>(objects: &H, fields: &[(Name, Value)], types: &[(Name, Ty)]) -> bool
-    ensures { result ≡ fields_typed_by (H.there objects.now) (of_fields (map value_entry fields.now)) (of_type_fields (map type_entry types.now)) }
+    ensures { result ≡ fields_typed_by (H.there objects.now) (of_fields (map value_entry fields.now))
+        (of_type_fields (map type_entry types.now)) }
 {
     if fields.len() != types.len() {
         return false;

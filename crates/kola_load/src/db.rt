@@ -83,7 +83,8 @@ fn members_of(alloc: Global, value: Value) -> Map<String, Value>
 
 // The objects that a value writes. The value goes as its objects come.
 fn objects_of(alloc: Global, schema: &Schema, value: Value) -> Result<Vec<ObjectDef>, DbFault>
-    ensures { Finds (db_fault schema.now (view value)) (λ v. map object_tree v.items ≡ written schema.now (view value)) result }
+    ensures { Finds (db_fault schema.now (view value))
+        (λ v. map object_tree v.items ≡ written schema.now (view value)) result }
 {
     check_members(alloc, schema, &value)?;
     let ids = all_ids(alloc, schema, &value)?;

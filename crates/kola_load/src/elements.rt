@@ -23,7 +23,8 @@ fn add_id(
     element: &Value,
 ) -> Result<(), DbFault>
     requires { AreIds ids.old (map view before.now) }
-    ensures { Finds (element_fault (class_tree class.now) (map view before.now) (view element.now)) (λ _. AreIds ids.new (map view before.now ++ view element.now ∷ [])) result }
+    ensures { Finds (element_fault (class_tree class.now) (map view before.now) (view element.now))
+        (λ _. AreIds ids.new (map view before.now ++ view element.now ∷ [])) result }
 {
     let index = before.len();
     if !element.is_object() {
@@ -54,7 +55,8 @@ fn element_ids(
     class: &ClassDef,
     elements: &[Value],
 ) -> Result<BTreeSet<u32>, DbFault>
-    ensures { Finds (first_among (element_fault (class_tree class.now)) [] (map view elements.now)) (λ s. AreIds s (map view elements.now)) result }
+    ensures { Finds (first_among (element_fault (class_tree class.now)) [] (map view elements.now))
+        (λ s. AreIds s (map view elements.now)) result }
 {
     let mut ids = BTreeSet::new(alloc);
     for i in 0..elements.len() {
@@ -65,7 +67,8 @@ fn element_ids(
 
 // The ids of the elements of a class's extent.
 fn extent_ids(alloc: Global, class: &ClassDef, value: &Value) -> Result<BTreeSet<u32>, DbFault>
-    ensures { Finds (extent_fault (view value.now) (class_tree class.now)) (λ s. AreIds s (extent_of (view value.now) (class_tree class.now))) result }
+    ensures { Finds (extent_fault (view value.now) (class_tree class.now))
+        (λ s. AreIds s (extent_of (view value.now) (class_tree class.now))) result }
 {
     let Some(member) = value.get(class.extent.as_text()) else {
         return Ok(BTreeSet::new(alloc));
@@ -80,7 +83,8 @@ fn extent_ids(alloc: Global, class: &ClassDef, value: &Value) -> Result<BTreeSet
 
 // The ids of the objects of each class.
 pub(crate) fn all_ids(alloc: Global, schema: &Schema, value: &Value) -> Result<Ids, DbFault>
-    ensures { Finds (first_of (extent_fault (view value.now)) schema.now) (λ t. AreAllIds t schema.now (view value.now)) result }
+    ensures { Finds (first_of (extent_fault (view value.now)) schema.now)
+        (λ t. AreAllIds t schema.now (view value.now)) result }
 {
     schema.well_formed();
     let mut table = Ids::new(alloc);

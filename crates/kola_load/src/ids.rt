@@ -32,7 +32,8 @@ impl Ids {
         class: &Name,
         ids: BTreeSet<u32>,
     ) -> Result<(), Memory>
-        ensures { OnOk result ((r : List ℕ × ℕ) → there self.new r ≡ cond (bytes_eq class.now r.0) (contains nat_cmp ids r.1) (there self.old r)) }
+        ensures { OnOk result ((r : List ℕ × ℕ) → there self.new r
+            ≡ cond (bytes_eq class.now r.0) (contains nat_cmp ids r.1) (there self.old r)) }
     {
         let name = class.to_string(alloc)?;
         self.by_class.insert(name, ids)?;

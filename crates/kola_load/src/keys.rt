@@ -181,7 +181,8 @@ fn check_key(
 ) -> Result<(), DbFault>
     requires unit { value_tree unit.now ≡ VUnit }
     requires objects { AreOfClass class.now (map object_tree objects.now) }
-    ensures { Finds (first_among (repeat_fault class.now place key.now) [] (map object_tree objects.now)) Nothing result }
+    ensures { Finds (first_among (repeat_fault class.now place key.now) []
+        (map object_tree objects.now)) Nothing result }
 {
     let places = places_of(alloc, class, key.as_slice())?;
     let mut seen: BTreeMap<KeyOf<'_>, u32> = BTreeMap::new(alloc);

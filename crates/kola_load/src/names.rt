@@ -22,7 +22,8 @@ pub(crate) fn least_unknown<K: Knows>(
     known: &K,
     members: &Map<String, Value>,
 ) -> Result<Option<Text>, Memory>
-    ensures { IfOk result (λ o. o ≡ least (filter (λ n. not (is_listed n (K.names known.now))) (names_of_members (members_view members.now.entries)))) }
+    ensures { IfOk result (λ o. o ≡ least
+        (filter (λ n. not (is_listed n (K.names known.now))) (names_of_members (members_view members.now.entries)))) }
 {
     for (name, _) in members {
         if !known.knows(name.as_str()) {

@@ -44,7 +44,8 @@ impl Knows for Labels<'_> {
 
 // The least name of a member of an object that is neither `#` nor an attribute.
 fn unknown_label(alloc: Global, class: &IndexedClass, object: &Json) -> Result<Option<Text>, Memory>
-    ensures { IfOk result (λ o. o ≡ least (names_beside (codes "#" ∷ names_of class.now.attributes) (view object.now))) }
+    ensures { IfOk result
+        (λ o. o ≡ least (names_beside (codes "#" ∷ names_of class.now.attributes) (view object.now))) }
 {
     let Some(members) = object.as_object() else {
         return Ok(None);
@@ -97,7 +98,9 @@ fn read_attribute(
     attribute: &(Name, Ty),
 ) -> Result<(Name, Value), DbFault>
     requires { id ≡ id_in (view object.now) }
-    ensures { Finds (attribute_fault (there ids.now) (class_tree class.now) (view object.now) (type_entry attribute.now)) (λ e. value_entry e ≡ attribute_in (view object.now) (type_entry attribute.now)) result }
+    ensures { Finds (attribute_fault (there ids.now) (class_tree class.now) (view object.now)
+        (type_entry attribute.now))
+        (λ e. value_entry e ≡ attribute_in (view object.now) (type_entry attribute.now)) result }
 {
     let (name, t) = attribute;
     let Some(member) = object.get(name.as_text()) else {
@@ -121,7 +124,8 @@ fn read_attributes(
     object: &Json,
 ) -> Result<ValueFields, DbFault>
     requires { id ≡ id_in (view object.now) }
-    ensures { Finds (first_of (attribute_fault (there ids.now) (class_tree class.now) (view object.now)) class.now.attributes) (λ vs. vs ≡ map (attribute_in (view object.now)) class.now.attributes) result }
+    ensures { Finds (first_of (attribute_fault (there ids.now) (class_tree class.now) (view object.now))
+        class.now.attributes) (λ vs. vs ≡ map (attribute_in (view object.now)) class.now.attributes) result }
 {
     let mut values = ValueFields::new(alloc);
     for attribute in class.attributes.as_slice() {
@@ -140,7 +144,8 @@ fn read_known(
     object: &Json,
 ) -> Result<ObjectDef, DbFault>
     requires { id ≡ id_in (view object.now) }
-    ensures { Finds (first_of (attribute_fault (there ids.now) (class_tree class.now) (view object.now)) class.now.attributes) (λ o. object_tree o ≡ object_in (class_tree class.now) (view object.now)) result }
+    ensures { Finds (first_of (attribute_fault (there ids.now) (class_tree class.now) (view object.now))
+        class.now.attributes) (λ o. object_tree o ≡ object_in (class_tree class.now) (view object.now)) result }
 {
     let values = read_attributes(alloc, ids, class, id, object)?;
     Ok(ObjectDef {
@@ -167,7 +172,8 @@ fn read_object(
     class: &IndexedClass,
     object: &Json,
 ) -> Result<ObjectDef, DbFault>
-    ensures { Finds (object_fault (there ids.now) class.now (view object.now)) (λ o. object_tree o ≡ object_in class.now (view object.now)) result }
+    ensures { Finds (object_fault (there ids.now) class.now (view object.now))
+        (λ o. object_tree o ≡ object_in class.now (view object.now)) result }
 {
     let id = own_id(object).unwrap_or(0);
     let unknown = unknown_label(alloc, class, object)?;
@@ -184,7 +190,8 @@ fn read_class(
     class: &IndexedClass,
     elements: Vec<Json>,
 ) -> Result<Vec<ObjectDef>, DbFault>
-    ensures { Finds (first_of (object_fault (there ids.now) class.now) (map view elements.items)) (λ v. map object_tree v.items ≡ map (object_in class.now) (map view elements.items)) result }
+    ensures { Finds (first_of (object_fault (there ids.now) class.now) (map view elements.items))
+        (λ v. map object_tree v.items ≡ map (object_in class.now) (map view elements.items)) result }
 {
     let mut objects = Vec::new(alloc);
     for element in elements {
@@ -222,7 +229,9 @@ pub(crate) fn read_objects(
     ids: &Ids,
     given: Map<String, Json>,
 ) -> Result<Vec<Vec<ObjectDef>>, DbFault>
-    ensures { Finds (first_of (objects_fault (there ids.now) (object (members_view given.entries))) schema.now) (λ v. map (λ l. map object_tree l.items) v.items ≡ map (objects_in (object (members_view given.entries))) schema.now) result }
+    ensures { Finds (first_of (objects_fault (there ids.now) (object (members_view given.entries))) schema.now)
+        (λ v. map (λ l. map object_tree l.items) v.items
+        ≡ map (objects_in (object (members_view given.entries))) schema.now) result }
 {
     schema.well_formed();
     let mut members = given;

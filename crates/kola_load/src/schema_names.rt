@@ -205,7 +205,8 @@ fn first_of_classes(
     classes: &[ClassAt<'_>],
 ) -> Result<(Option<Mark>, Option<Mark>), Memory>
     ensures twice { IfOk result (λ r. r.0 ≡ twice (class_names (map class_view classes.now))) }
-    ensures inside { IfOk result (λ r. r.1 ≡ first_of (first_in_class (names_from [] (class_names (map class_view classes.now)))) (map class_view classes.now)) }
+    ensures inside { IfOk result (λ r. r.1 ≡ first_of
+        (first_in_class (names_from [] (class_names (map class_view classes.now)))) (map class_view classes.now)) }
 {
     let names = class_names(alloc, classes)?;
     let (known, twice) = table_of(alloc, names.as_slice())?;

@@ -52,7 +52,8 @@ fn name_why(why: NameWhy) -> SchemaWhy
 /// The schema of the classes, or the first fault of their names.
 fn checked(alloc: Global, classes: &[ClassAt<'_>]) -> Result<Schema, SchemaFault>
     requires { HaveKeys (map class_view classes.now) }
-    ensures found { IfOk result (λ s. (s ≡ plain (map class_view classes.now)) × ((m : Mark) → Stands (map class_view classes.now) m → ⊥)) }
+    ensures found { IfOk result
+        (λ s. (s ≡ plain (map class_view classes.now)) × ((m : Mark) → Stands (map class_view classes.now) m → ⊥)) }
     ensures fault { IfErr result (IsMarked (map class_view classes.now)) }
 {
     if let Some(mark) = first_mark(alloc, classes)? {

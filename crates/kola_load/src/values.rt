@@ -50,7 +50,8 @@ pub(crate) fn value_of(alloc: Global, t: &Ty, value: &Json) -> Result<Option<Val
 // The set of the values of a type that JSON values write; nothing where one is not of the type.
 #[cycle(value_of)]
 fn set_of(alloc: Global, t: &Ty, elements: &[Json]) -> Result<Option<Value>, Memory>
-    ensures { IfOk result (λ o. option_map value_tree o ≡ option_map set_of (whole (map (value_of (type_tree t.now)) (map view elements.now)))) }
+    ensures { IfOk result (λ o. option_map value_tree o
+        ≡ option_map set_of (whole (map (value_of (type_tree t.now)) (map view elements.now)))) }
 {
     let mut members = Gathered::new(alloc);
     for element in elements {
@@ -66,7 +67,8 @@ fn set_of(alloc: Global, t: &Ty, elements: &[Json]) -> Result<Option<Value>, Mem
 // The first id in a value of a type that names no object of its class.
 #[cycle(missing)]
 pub(crate) fn missing(ids: &Ids, t: &Ty, value: &Json) -> Option<u32>
-    ensures { result ≡ option_map (λ r. r.1) (find (λ r. not (there ids.now r)) (references (type_tree t.now) (view value.now))) }
+    ensures { result ≡ option_map (λ r. r.1)
+        (find (λ r. not (there ids.now r)) (references (type_tree t.now) (view value.now))) }
 {
     match t {
         Ty::Class(class) => {
@@ -81,7 +83,8 @@ pub(crate) fn missing(ids: &Ids, t: &Ty, value: &Json) -> Option<u32>
 // The same in the values of a type that JSON values write, one after the other.
 #[cycle(missing)]
 fn missing_among(ids: &Ids, t: &Ty, elements: &[Json]) -> Option<u32>
-    ensures { result ≡ option_map (λ r. r.1) (find (λ r. not (there ids.now r)) (flat_map (references (type_tree t.now)) (map view elements.now))) }
+    ensures { result ≡ option_map (λ r. r.1)
+        (find (λ r. not (there ids.now r)) (flat_map (references (type_tree t.now)) (map view elements.now))) }
 {
     for element in elements {
         if let Some(id) = missing(ids, t, element) {

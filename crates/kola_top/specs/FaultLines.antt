@@ -1,13 +1,11 @@
 -- The line that each refusal writes: a cause is its name, with its fields behind it, each behind one blank.
-use Rattle.std.specs.Prelude.{ℕ, List, ◌++◌, codes}
+use Rattle.std.specs.Prelude.{ℕ, List, [], ◌++◌, codes}
 use Rattle.std.specs.Fmt.{decimal}
-use Rattle.kola_base.specs.declared.lex.LexWhy.{LexWhy}
-use Rattle.kola_base.specs.declared.lex.LexWhy.TheVariants.{BadByte, OpenString, BadEscape, NumberTooLarge, NotUtf8}
 use Rattle.kola_canon.specs.Spelling.{quoted}
 use Rattle.kola_load.specs.declared.fault.DbFault.{DbFault}
 use Rattle.kola_load.specs.declared.fault.DbFault.TheVariants as db
 use Rattle.kola_load.specs.declared.schema_fault.SchemaWhy.{SchemaWhy}
-use Rattle.kola_load.specs.declared.schema_fault.SchemaWhy.TheVariants as schema
+use Rattle.kola_load.specs.CauseNames.{schema_name, db_name}
 use Rattle.kola_top.specs.declared.layout.LayoutFault.{LayoutFault}
 use Rattle.kola_top.specs.declared.layout.LayoutWhy.{LayoutWhy}
 use Rattle.kola_top.specs.declared.layout.LayoutWhy.TheVariants.{TextBefore, UnknownSection, SectionOutOfOrder}
@@ -43,25 +41,9 @@ not_built_line = query_line 0 (codes "NotBuilt")
 
 -- ---- schemas
 
-abbrev pub lex_cause : LexWhy → List ℕ
-lex_cause BadByte = codes "BadByte"
-lex_cause OpenString = codes "OpenString"
-lex_cause BadEscape = codes "BadEscape"
-lex_cause NumberTooLarge = codes "NumberTooLarge"
-lex_cause NotUtf8 = codes "NotUtf8"
-
-abbrev pub schema_cause : SchemaWhy → List ℕ
-schema_cause (schema.Lex why) = lex_cause why
-schema_cause schema.Unexpected = codes "Unexpected"
-schema_cause schema.TooDeep = codes "TooDeep"
-schema_cause schema.NameNotAllowed = codes "NameNotAllowed"
-schema_cause schema.TwiceDefined = codes "TwiceDefined"
-schema_cause schema.UnknownClass = codes "UnknownClass"
-schema_cause schema.UnknownKeyAttribute = codes "UnknownKeyAttribute"
-
 -- the place in the schema's text, and the cause
 abbrev pub schema_line : ℕ → SchemaWhy → List ℕ
-schema_line at why = codes "fault: schema at " ++ (decimal at ++ (codes ": " ++ (schema_cause why ++ codes "\n")))
+schema_line at why = codes "fault: schema at " ++ (decimal at ++ (codes ": " ++ (schema_name why ++ codes "\n")))
 
 -- ---- databases
 
@@ -75,24 +57,24 @@ text_field t = codes " " ++ quoted t
 abbrev pub number_field : ℕ → List ℕ
 number_field n = codes " " ++ decimal n
 
--- a cause with a class or extent and a number behind it
-abbrev pub at_number : List ℕ → List ℕ → ℕ → List ℕ
-at_number cause name number = cause ++ (name_field name ++ number_field number)
+-- a class or extent and a number
+abbrev pub at_number : List ℕ → ℕ → List ℕ
+at_number name number = name_field name ++ number_field number
 
-abbrev pub database_cause : DbFault → List ℕ
-database_cause db.NotJson = codes "NotJson"
-database_cause db.NotObject = codes "NotObject"
-database_cause (db.UnknownExtent name) = codes "UnknownExtent" ++ text_field name
-database_cause (db.NotAnArray extent) = codes "NotAnArray" ++ name_field extent
-database_cause (db.NotAnObject extent index) = at_number (codes "NotAnObject") extent index
-database_cause (db.BadId extent index) = at_number (codes "BadId") extent index
-database_cause (db.TwiceId extent id) = at_number (codes "TwiceId") extent id
-database_cause (db.UnknownAttribute class id name) = at_number (codes "UnknownAttribute") class id ++ text_field name
-database_cause (db.MissingAttribute class id name) = at_number (codes "MissingAttribute") class id ++ name_field name
-database_cause (db.WrongType class id name) = at_number (codes "WrongType") class id ++ name_field name
-database_cause (db.NoSuchObject class id name target) = at_number (codes "NoSuchObject") class id ++ (name_field name ++ number_field target)
-database_cause (db.KeyRepeats class key first second) = at_number (codes "KeyRepeats") class key ++ (number_field first ++ number_field second)
-database_cause db.Memory = codes "Memory"
+abbrev pub database_fields : DbFault → List ℕ
+database_fields db.NotJson = []
+database_fields db.NotObject = []
+database_fields (db.UnknownExtent name) = text_field name
+database_fields (db.NotAnArray extent) = name_field extent
+database_fields (db.NotAnObject extent index) = at_number extent index
+database_fields (db.BadId extent index) = at_number extent index
+database_fields (db.TwiceId extent id) = at_number extent id
+database_fields (db.UnknownAttribute class id name) = at_number class id ++ text_field name
+database_fields (db.MissingAttribute class id name) = at_number class id ++ name_field name
+database_fields (db.WrongType class id name) = at_number class id ++ name_field name
+database_fields (db.NoSuchObject class id name target) = at_number class id ++ (name_field name ++ number_field target)
+database_fields (db.KeyRepeats class key first second) = at_number class key ++ (number_field first ++ number_field second)
+database_fields db.Memory = []
 
 abbrev pub database_line : DbFault → List ℕ
-database_line fault = codes "fault: database: " ++ (database_cause fault ++ codes "\n")
+database_line fault = codes "fault: database: " ++ (db_name fault ++ (database_fields fault ++ codes "\n"))

@@ -1,46 +1,19 @@
 //! The lines of the faults of schemas and databases.
 
-ghost use Rattle.std.specs.Prelude.{◌≡◌, ◌++◌, IfOk, OnOk, codes};
+ghost use Rattle.std.specs.Prelude.{◌≡◌, ◌++◌, IfOk, OnOk};
 ghost use Rattle.std.specs.String.{string_bytes};
-ghost use Rattle.kola_top.specs.FaultLines.{lex_cause, schema_cause, schema_line, name_field, text_field, number_field, at_number, database_cause, database_line};
+ghost use Rattle.kola_top.specs.FaultLines.{schema_line, name_field, text_field, number_field, at_number, database_fields, database_line};
 
-use kola_base::LexWhy;
 use kola_canon::{push_bytes, push_number, push_text};
 use kola_core::{Memory, Name, Text};
 use kola_load::{DbFault, SchemaWhy};
 use std::alloc::{AllocError, Global};
 
-fn lex_cause(why: LexWhy) -> &'static str
-    ensures { result.now ≡ lex_cause why }
-{
-    match why {
-        LexWhy::BadByte => "BadByte",
-        LexWhy::OpenString => "OpenString",
-        LexWhy::BadEscape => "BadEscape",
-        LexWhy::NumberTooLarge => "NumberTooLarge",
-        LexWhy::NotUtf8 => "NotUtf8",
-    }
-}
-
-fn schema_cause(why: SchemaWhy) -> &'static str
-    ensures { result.now ≡ schema_cause why }
-{
-    match why {
-        SchemaWhy::Lex(why) => lex_cause(why),
-        SchemaWhy::Unexpected => "Unexpected",
-        SchemaWhy::TooDeep => "TooDeep",
-        SchemaWhy::NameNotAllowed => "NameNotAllowed",
-        SchemaWhy::TwiceDefined => "TwiceDefined",
-        SchemaWhy::UnknownClass => "UnknownClass",
-        SchemaWhy::UnknownKeyAttribute => "UnknownKeyAttribute",
-    }
-}
-
 /// The line of a fault of the schema's text, at a place in it.
 pub fn schema_line(alloc: Global, at: usize, why: SchemaWhy) -> Result<String, AllocError>
     ensures { IfOk result (λ s. string_bytes s ≡ schema_line at why) }
 {
-    let cause = schema_cause(why);
+    let cause = why.name();
     format!(in alloc; "fault: schema at {at}: {cause}\n")
 }
 
@@ -65,39 +38,44 @@ fn push_number_field(out: &mut Vec<u8>, number: u64) -> Result<(), Memory>
     push_number(out, number)
 }
 
-/// A cause's name, the class or extent, and a number.
-fn push_cause(out: &mut Vec<u8>, cause: &[u8], name: &Name, number: u64) -> Result<(), Memory>
-    ensures { OnOk result (out.new.items ≡ out.old.items ++ at_number cause.now name.now number) }
+/// The class or extent, and a number.
+fn push_numbered(out: &mut Vec<u8>, name: &Name, number: u64) -> Result<(), Memory>
+    ensures { OnOk result (out.new.items ≡ out.old.items ++ at_number name.now number) }
 {
-    push_bytes(out, cause)?;
     push_name_field(out, name)?;
     push_number_field(out, number)
 }
 
-/// A cause's name, the class, an object's id and one of its attributes.
-fn push_attribute_cause(
-    out: &mut Vec<u8>,
-    cause: &[u8],
-    class: &Name,
-    id: u32,
-    name: &Name,
-) -> Result<(), Memory>
-    ensures { OnOk result (out.new.items ≡ out.old.items ++ (at_number cause.now class.now id ++ name_field name.now)) }
+/// The class, an object's id and one of its attributes.
+fn push_attribute(out: &mut Vec<u8>, class: &Name, id: u32, name: &Name) -> Result<(), Memory>
+    ensures { OnOk result (out.new.items ≡ out.old.items ++ (at_number class.now id ++ name_field name.now)) }
 {
-    push_cause(out, cause, class, u64::from(id))?;
+    push_numbered(out, class, u64::from(id))?;
     push_name_field(out, name)
 }
 
-fn push_unknown_attribute(
-    out: &mut Vec<u8>,
-    class: &Name,
-    id: u32,
-    name: &Text,
-) -> Result<(), Memory>
-    ensures { OnOk result (out.new.items ≡ out.old.items ++ (at_number (codes "UnknownAttribute") class.now id ++ text_field name.now)) }
+/// The class, an object's id and the name of a member that is no attribute.
+fn push_member(out: &mut Vec<u8>, class: &Name, id: u32, name: &Text) -> Result<(), Memory>
+    ensures { OnOk result (out.new.items ≡ out.old.items ++ (at_number class.now id ++ text_field name.now)) }
 {
-    push_cause(out, b"UnknownAttribute", class, u64::from(id))?;
+    push_numbered(out, class, u64::from(id))?;
     push_text_field(out, name)
+}
+
+/// An attribute, and the id of the object that it names.
+fn push_target(out: &mut Vec<u8>, name: &Name, target: u32) -> Result<(), Memory>
+    ensures { OnOk result (out.new.items ≡ out.old.items ++ (name_field name.now ++ number_field target)) }
+{
+    push_name_field(out, name)?;
+    push_number_field(out, u64::from(target))
+}
+
+/// The ids of two objects.
+fn push_ids(out: &mut Vec<u8>, first: u32, second: u32) -> Result<(), Memory>
+    ensures { OnOk result (out.new.items ≡ out.old.items ++ (number_field first ++ number_field second)) }
+{
+    push_number_field(out, u64::from(first))?;
+    push_number_field(out, u64::from(second))
 }
 
 fn push_missing_object(
@@ -107,18 +85,11 @@ fn push_missing_object(
     name: &Name,
     target: u32,
 ) -> Result<(), Memory>
-    ensures { OnOk result (out.new.items ≡ out.old.items ++ (at_number (codes "NoSuchObject") class.now id ++ (name_field name.now ++ number_field target))) }
+    ensures { OnOk result (out.new.items ≡ out.old.items
+        ++ (at_number class.now id ++ (name_field name.now ++ number_field target))) }
 {
-    push_cause(out, b"NoSuchObject", class, u64::from(id))?;
-    push_name_field(out, name)?;
-    push_number_field(out, u64::from(target))
-}
-
-fn push_two_numbers(out: &mut Vec<u8>, first: u32, second: u32) -> Result<(), Memory>
-    ensures { OnOk result (out.new.items ≡ out.old.items ++ (number_field first ++ number_field second)) }
-{
-    push_number_field(out, u64::from(first))?;
-    push_number_field(out, u64::from(second))
+    push_numbered(out, class, u64::from(id))?;
+    push_target(out, name, target)
 }
 
 fn push_repeated_key(
@@ -128,39 +99,27 @@ fn push_repeated_key(
     first: u32,
     second: u32,
 ) -> Result<(), Memory>
-    ensures { OnOk result (out.new.items ≡ out.old.items ++ (at_number (codes "KeyRepeats") class.now key ++ (number_field first ++ number_field second))) }
+    ensures { OnOk result (out.new.items ≡ out.old.items
+        ++ (at_number class.now key ++ (number_field first ++ number_field second))) }
 {
-    push_cause(out, b"KeyRepeats", class, key as u64)?;
-    push_two_numbers(out, first, second)
+    push_numbered(out, class, key as u64)?;
+    push_ids(out, first, second)
 }
 
-fn push_database_cause(out: &mut Vec<u8>, fault: &DbFault) -> Result<(), Memory>
-    ensures { OnOk result (out.new.items ≡ out.old.items ++ database_cause fault.now) }
+fn push_database_fields(out: &mut Vec<u8>, fault: &DbFault) -> Result<(), Memory>
+    ensures { OnOk result (out.new.items ≡ out.old.items ++ database_fields fault.now) }
 {
     match fault {
-        DbFault::NotJson => push_bytes(out, b"NotJson"),
-        DbFault::NotObject => push_bytes(out, b"NotObject"),
-        DbFault::UnknownExtent { name } => {
-            push_bytes(out, b"UnknownExtent")?;
-            push_text_field(out, name)
+        DbFault::NotJson | DbFault::NotObject | DbFault::Memory => Ok(()),
+        DbFault::UnknownExtent { name } => push_text_field(out, name),
+        DbFault::NotAnArray { extent } => push_name_field(out, extent),
+        DbFault::NotAnObject { extent, index } | DbFault::BadId { extent, index } => {
+            push_numbered(out, extent, *index as u64)
         }
-        DbFault::NotAnArray { extent } => {
-            push_bytes(out, b"NotAnArray")?;
-            push_name_field(out, extent)
-        }
-        DbFault::NotAnObject { extent, index } => {
-            push_cause(out, b"NotAnObject", extent, *index as u64)
-        }
-        DbFault::BadId { extent, index } => push_cause(out, b"BadId", extent, *index as u64),
-        DbFault::TwiceId { extent, id } => push_cause(out, b"TwiceId", extent, u64::from(*id)),
-        DbFault::UnknownAttribute { class, id, name } => {
-            push_unknown_attribute(out, class, *id, name)
-        }
-        DbFault::MissingAttribute { class, id, name } => {
-            push_attribute_cause(out, b"MissingAttribute", class, *id, name)
-        }
-        DbFault::WrongType { class, id, name } => {
-            push_attribute_cause(out, b"WrongType", class, *id, name)
+        DbFault::TwiceId { extent, id } => push_numbered(out, extent, u64::from(*id)),
+        DbFault::UnknownAttribute { class, id, name } => push_member(out, class, *id, name),
+        DbFault::MissingAttribute { class, id, name } | DbFault::WrongType { class, id, name } => {
+            push_attribute(out, class, *id, name)
         }
         DbFault::NoSuchObject {
             class,
@@ -174,7 +133,6 @@ fn push_database_cause(out: &mut Vec<u8>, fault: &DbFault) -> Result<(), Memory>
             first,
             second,
         } => push_repeated_key(out, class, *key, *first, *second),
-        DbFault::Memory => push_bytes(out, b"Memory"),
     }
 }
 
@@ -184,7 +142,8 @@ pub fn database_line(alloc: Global, fault: &DbFault) -> Result<Vec<u8>, Memory>
 {
     let mut out = Vec::new(alloc);
     push_bytes(&mut out, b"fault: database: ")?;
-    push_database_cause(&mut out, fault)?;
+    push_bytes(&mut out, fault.name().as_bytes())?;
+    push_database_fields(&mut out, fault)?;
     push_bytes(&mut out, b"\n")?;
     Ok(out)
 }

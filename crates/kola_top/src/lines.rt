@@ -90,7 +90,8 @@ fn line_feed(bytes: &[u8]) -> Option<usize>
 /// The line that begins at `from`.
 pub fn line_at(job: &[u8], from: usize) -> Line<'_>
     requires { from < length job.now }
-    ensures line { lines_from from (drop from job.now) ≡ line_view result ∷ lines_from result.next (drop result.next job.now) }
+    ensures line { lines_from from (drop from job.now) ≡ line_view result
+        ∷ lines_from result.next (drop result.next job.now) }
     ensures longer { from < result.next }
     ensures within { result.next ≤ length job.now }
 {

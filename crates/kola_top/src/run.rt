@@ -21,7 +21,8 @@ const GREATEST_LENGTH: usize = 16_777_216;
 /// Writes the bytes of an answer that has this status.
 fn write_answer<K: Sink>(sink: &mut K, status: Status, bytes: &[u8]) -> Status
     requires { IsTrue (is_written status) }
-    ensures { Sent status bytes.now (K.written sink.old) (K.written sink.new) (K.faults sink.old) (K.faults sink.new) result }
+    ensures { Sent status bytes.now (K.written sink.old) (K.written sink.new) (K.faults sink.old)
+        (K.faults sink.new) result }
 {
     match write_all(sink, bytes) {
         Ok(()) => status,

@@ -154,7 +154,8 @@ pub fn input_at(
     path: &Path,
 ) -> Result<Ty, PlaceFault>
     requires { Typed schema.now (context_of ctx.now) (term_tree t.now) (type_tree ty.now) }
-    ensures input { IfOk result (λ w. place schema.now (context_of ctx.now) (term_tree t.now) (type_tree ty.now) path.now
+    ensures input { IfOk result
+        (λ w. place schema.now (context_of ctx.now) (term_tree t.now) (type_tree ty.now) path.now
         ≡ Some (type_tree w)) }
     ensures no_such_path { UnlessMemory result ((result ≡ Err PlaceFault.NoSuchPath)
         ↔ (sub_at (term_tree t.now) path.now ≡ None)) }

@@ -53,7 +53,8 @@ fn as_set(t: &Ty) -> Option<&Ty>
 
 /// The members of a set of sets.
 pub(crate) fn inner_set(t: &Ty) -> Option<&Ty>
-    ensures { option_map type_at result ≡ option_map TSet (option_and_then member_type (member_type (type_tree t.now))) }
+    ensures { option_map type_at result
+        ≡ option_map TSet (option_and_then member_type (member_type (type_tree t.now))) }
 {
     let inner = member(t)?;
     as_set(inner)
@@ -130,7 +131,8 @@ pub(crate) fn beside(alloc: Global, first: Ty, t: &Ty) -> Result<Ty, Memory>
 
 /// A pair turned round.
 pub(crate) fn turned(alloc: Global, t: &Ty) -> Result<Option<Ty>, Memory>
-    ensures { IfOk result (λ o. option_map type_tree o ≡ pair_of (second_type (type_tree t.now)) (first_type (type_tree t.now))) }
+    ensures { IfOk result
+        (λ o. option_map type_tree o ≡ pair_of (second_type (type_tree t.now)) (first_type (type_tree t.now))) }
 {
     let Ty::Pair(first, second) = t else {
         return Ok(None);

@@ -52,7 +52,8 @@ pub fn a_term_is_fine_or_has_one_first_fault()
 
 /// Each part of a fine term is fine at its place.
 pub fn parts_of_a_fine_term_are_fine()
-    ensures { (S : Classes) (x : Context) (q : List ℕ) (t l : TermTree) (T u : TypeTree) → Fine S x t T u → sub_at t q ≡ Some l →
+    ensures { (S : Classes) (x : Context) (q : List ℕ) (t l : TermTree) (T u : TypeTree) → Fine S x t T u → sub_at t q
+        ≡ Some l →
         (w : TypeTree) × (v : TypeTree) × (place S x t T q ≡ Some w) × Fine S x l w v }
 {}
 

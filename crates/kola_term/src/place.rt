@@ -101,7 +101,8 @@ fn put_in_pred(
     path: &[u8],
     new: SubTerm,
 ) -> Result<(), PlaceFault>
-    ensures { IsPut (TermP (pred_tree p.old.value)) path.now (sub_tree new.entry) (TermP (pred_tree p.new.value)) result }
+    ensures { IsPut (TermP (pred_tree p.old.value)) path.now (sub_tree new.entry)
+        (TermP (pred_tree p.new.value)) result }
 {
     match path.split_first() {
         Some((n, rest)) => put_below_pred(alloc, &mut **p, *n, rest, new),
@@ -173,7 +174,8 @@ fn put_in_funs(
     rest: &[u8],
     new: SubTerm,
 ) -> Result<(), PlaceFault>
-    ensures { IsPutAmong (TermF (fun_tree f.old.value) ∷ TermF (fun_tree g.old.value) ∷ []) n rest.now (sub_tree new.entry)
+    ensures { IsPutAmong (TermF (fun_tree f.old.value) ∷ TermF (fun_tree g.old.value) ∷ []) n rest.now
+        (sub_tree new.entry)
         (TermF (fun_tree f.new.value) ∷ TermF (fun_tree g.new.value) ∷ []) result }
 {
     match n {
@@ -215,7 +217,8 @@ fn put_in_pred_or_fun(
     rest: &[u8],
     new: SubTerm,
 ) -> Result<(), PlaceFault>
-    ensures { IsPutAmong (TermP (pred_tree p.old.value) ∷ TermF (fun_tree f.old.value) ∷ []) n rest.now (sub_tree new.entry)
+    ensures { IsPutAmong (TermP (pred_tree p.old.value) ∷ TermF (fun_tree f.old.value) ∷ []) n rest.now
+        (sub_tree new.entry)
         (TermP (pred_tree p.new.value) ∷ TermF (fun_tree f.new.value) ∷ []) result }
 {
     match n {
@@ -261,7 +264,8 @@ fn put_in_preds(
     rest: &[u8],
     new: SubTerm,
 ) -> Result<(), PlaceFault>
-    ensures { IsPutAmong (TermP (pred_tree p.old.value) ∷ TermP (pred_tree q.old.value) ∷ []) n rest.now (sub_tree new.entry)
+    ensures { IsPutAmong (TermP (pred_tree p.old.value) ∷ TermP (pred_tree q.old.value) ∷ []) n rest.now
+        (sub_tree new.entry)
         (TermP (pred_tree p.new.value) ∷ TermP (pred_tree q.new.value) ∷ []) result }
 {
     match n {
@@ -314,7 +318,8 @@ fn put_in_only_pred(
 /// The same of one constant.
 #[tactic(auto, using(crate::proofs::Replaced::numbered))]
 fn put_in_only_const(c: &mut Const, n: u8, rest: &[u8], new: SubTerm) -> Result<(), PlaceFault>
-    ensures { IsPutAmong (TermC (const_tree c.old) ∷ []) n rest.now (sub_tree new.entry) (TermC (const_tree c.new) ∷ []) result }
+    ensures { IsPutAmong (TermC (const_tree c.old) ∷ []) n rest.now (sub_tree new.entry)
+        (TermC (const_tree c.new) ∷ []) result }
 {
     match n {
         1 => return put_in_const(c, rest, new),

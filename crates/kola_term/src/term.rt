@@ -218,7 +218,8 @@ fn copy_pred(p: &Box<Pred>) -> Result<Box<Pred>, Memory>
 /// Copies of two functions.
 #[cycle(copy_term)]
 fn copy_funs(f: &Box<Fun>, g: &Box<Fun>) -> Result<(Box<Fun>, Box<Fun>), Memory>
-    ensures { IfOk result (λ r. (fun_tree r.0.value ≡ fun_tree f.now.value) × (fun_tree r.1.value ≡ fun_tree g.now.value)) }
+    ensures { IfOk result
+        (λ r. (fun_tree r.0.value ≡ fun_tree f.now.value) × (fun_tree r.1.value ≡ fun_tree g.now.value)) }
 {
     let f = copy_fun(f)?;
     let g = copy_fun(g)?;
@@ -238,7 +239,8 @@ fn copy_fun_and_const(f: &Box<Fun>, c: &Const) -> Result<(Box<Fun>, Const), Memo
 /// Copies of a predicate and a function.
 #[cycle(copy_term)]
 fn copy_pred_and_fun(p: &Box<Pred>, f: &Box<Fun>) -> Result<(Box<Pred>, Box<Fun>), Memory>
-    ensures { IfOk result (λ r. (pred_tree r.0.value ≡ pred_tree p.now.value) × (fun_tree r.1.value ≡ fun_tree f.now.value)) }
+    ensures { IfOk result
+        (λ r. (pred_tree r.0.value ≡ pred_tree p.now.value) × (fun_tree r.1.value ≡ fun_tree f.now.value)) }
 {
     let p = copy_pred(p)?;
     let f = copy_fun(f)?;
@@ -252,7 +254,8 @@ fn copy_choice(
     f: &Box<Fun>,
     g: &Box<Fun>,
 ) -> Result<(Box<Pred>, Box<Fun>, Box<Fun>), Memory>
-    ensures { IfOk result (λ r. (pred_tree r.0.value ≡ pred_tree p.now.value) × (fun_tree r.1.value ≡ fun_tree f.now.value)
+    ensures { IfOk result
+        (λ r. (pred_tree r.0.value ≡ pred_tree p.now.value) × (fun_tree r.1.value ≡ fun_tree f.now.value)
         × (fun_tree r.2.value ≡ fun_tree g.now.value)) }
 {
     let p = copy_pred(p)?;
@@ -264,7 +267,8 @@ fn copy_choice(
 /// Copies of two predicates.
 #[cycle(copy_term)]
 fn copy_preds(p: &Box<Pred>, q: &Box<Pred>) -> Result<(Box<Pred>, Box<Pred>), Memory>
-    ensures { IfOk result (λ r. (pred_tree r.0.value ≡ pred_tree p.now.value) × (pred_tree r.1.value ≡ pred_tree q.now.value)) }
+    ensures { IfOk result
+        (λ r. (pred_tree r.0.value ≡ pred_tree p.now.value) × (pred_tree r.1.value ≡ pred_tree q.now.value)) }
 {
     let p = copy_pred(p)?;
     let q = copy_pred(q)?;

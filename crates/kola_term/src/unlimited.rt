@@ -28,7 +28,8 @@ pub fn out_type_without_limit(
     f: &Fun,
     t: &Ty,
 ) -> Result<Option<Ty>, Memory>
-    ensures { IfOk result (λ o. option_map type_tree o ≡ out schema.now (context_of ctx.now) (fun_tree f.now) (type_tree t.now)) }
+    ensures { IfOk result
+        (λ o. option_map type_tree o ≡ out schema.now (context_of ctx.now) (fun_tree f.now) (type_tree t.now)) }
 {
     let judge = Judge {
         alloc,
@@ -75,7 +76,8 @@ pub fn const_type(
     ctx: &MetaCtx,
     c: &Const,
 ) -> Result<Option<Ty>, Memory>
-    ensures { IfOk result (λ o. option_map type_tree o ≡ const_type schema.now (context_of ctx.now) (const_tree c.now)) }
+    ensures { IfOk result
+        (λ o. option_map type_tree o ≡ const_type schema.now (context_of ctx.now) (const_tree c.now)) }
 {
     let judge = Judge {
         alloc,

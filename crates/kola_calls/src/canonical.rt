@@ -211,14 +211,10 @@ fn is_encoded(alloc: Global, v: &Value, t: &Ty, text: &str) -> Result<bool, Memo
     is_value(alloc, &e, text)
 }
 
-fn is_decoded(
-    alloc: Global,
-    e: &Value,
-    encodings: &Ty,
-    t: &Ty,
-    text: &str,
-) -> Result<bool, Memory> {
-    if !shaped(e, encodings) {
+/// Whether an encoding is decoded to the text, by the type of the values.
+fn is_decoded(alloc: Global, e: &Value, t: &Ty, text: &str) -> Result<bool, Memory> {
+    let encodings = encode_type(alloc, t)?;
+    if !shaped(e, &encodings) {
         return Ok(false);
     }
     let v = decode_by(alloc, e, t)?;
@@ -241,9 +237,8 @@ fn encoded(alloc: Global) -> Result<Value, Memory> {
 /// Whether that encoding is decoded to the text, by the struct's type.
 fn has_decoding(alloc: Global, text: &str) -> Result<bool, Memory> {
     let t = struct_type(alloc)?;
-    let encodings = encode_type(alloc, &t)?;
     let e = encoded(alloc)?;
-    is_decoded(alloc, &e, &encodings, &t, text)
+    is_decoded(alloc, &e, &t, text)
 }
 
 fn has_encoded_type(alloc: Global, text: &str) -> Result<bool, Memory> {

@@ -1,5 +1,6 @@
 -- The words and a job have an answer: each stage refuses or goes on.
 use Rattle.std.proofs.Common.{◌≡◌, ◌⊎◌, ℕ, ◌<◌, ◌≤◌, Bool, true, false, nat_lt, List, length, Option, Some, None, Result, Ok, Err, inl, inr, refl, arith, subst}
+use Rattle.std.proofs.lemmas.Bool.Decides.{nat_tests}
 use Rattle.kola_base.specs.declared.lex.Token.{Token}
 use Rattle.kola_base.specs.declared.lex.LexWhy.{LexWhy}
 use Rattle.kola_base.specs.Tokens.{AreTokens, StopsAt}
@@ -65,8 +66,8 @@ module _ (words : List (List ℕ)) (job : List ℕ) where
   length_goes = by (nat_lt greatest_length (length job)) refl
     where
       by : (b : Bool) → nat_lt greatest_length (length job) ≡ b → Goes (at_length job)
-      by true e = inl (tt, omega (arith, e))
-      by false e = inr (tt, omega (arith, e))
+      by true e = inl (tt, grind (arith, nat_tests, e))
+      by false e = inr (tt, grind (arith, nat_tests, e))
 
   layout_goes : Goes (at_layout job)
   layout_goes = by (walk (length job) (lines_of job) start) (walk_is job _ refl)

@@ -28,7 +28,7 @@ use Rattle.kola_top.specs.Answer.{IsRefused, Answer, usage, too_long, layout, mi
 use Rattle.kola_top.proofs.FoundLaws.{one_fault, one_layout}
 use Rattle.kola_top.proofs.FormLaws.{one_form}
 use Rattle.kola_top.specs.Staged.{Then, refused, onward}
-use Rattle.kola_top.specs.StageLine.{at_words, at_length, at_layout, at_place, at_schema, at_query, at_database, Reported, reported, OnItsWay, AllTheWay}
+use Rattle.kola_top.specs.StageLine.{at_words, at_length, at_layout, at_place, at_schema, at_query, at_database, Reported, reported, FromDatabase, FromQuery, FromSchema, FromPlace, OnItsWay, AllTheWay}
 use Rattle.kola_top.proofs.Staged.{One, IsOne, one_then}
 
 one_query : (text : List ℕ) (f g : SelectForm) → IsQuery text f → IsQuery text g → f ≡ g
@@ -139,28 +139,33 @@ module _ (words : List (List ℕ)) (job : List ℕ) where
   one_answer s t b c x y = one_staged s t b c (staged s b x) (staged t c y)
 
   -- the line of stages says nothing else
+  from_database : (q : HasQuery words job) (s : Status) (b : List ℕ) → FromDatabase job q.before.before.before.found q.before.classes q.form s b → Answer words job s b
+  from_database q _ _ (refused e h) = database e q h
+  from_database q _ _ (onward _ _ _ d reported) = report (record { before = q; value = d.0; objects = d.1; reads = d.2; writes = d.3 })
+
+  from_query : (c : HasSchema words job) (s : Status) (b : List ℕ) → FromQuery job c.before.before.found c.before.place c.classes s b → Answer words job s b
+  from_query c _ _ (refused _ h) = query c h
+  from_query c _ _ (onward f s b i k) = from_database (record { before = c; form = f; is = i }) s b k
+
+  from_schema : (l : HasSections words job) (s : Status) (b : List ℕ) → FromSchema job l.before.found l.place s b → Answer words job s b
+  from_schema l _ _ (refused f h) = schema f.0 f.1 l h
+  from_schema l _ _ (onward S s b w k) = from_query (record { before = l; classes = S; writes = w }) s b k
+
+  from_place : (l : IsLaidOut words job) (s : Status) (b : List ℕ) → FromPlace job l.found s b → Answer words job s b
+  from_place l _ _ (refused _ h) = missing l h
+  from_place l _ _ (onward p s b q k) = from_schema (record { before = l; place = p; query = q }) s b k
+
   pub answered : (t : IsTaken words job) (s : Status) (b : List ℕ) → OnItsWay job s b → Answer words job s b
   answered t _ _ (refused f h) = layout f t h
-  answered t _ _ (onward found _ _ l (refused _ h)) = missing (record { before = t; found = found; sections = l }) h
-  answered t _ _ (onward found _ _ l (onward p _ _ q (refused f h))) =
-      schema f.0 f.1 (record { before = record { before = t; found = found; sections = l }; place = p; query = q }) h
-  answered t _ _ (onward found _ _ l (onward p _ _ q (onward S _ _ w (refused _ h)))) =
-      query (record { before = record { before = record { before = t; found = found; sections = l }; place = p; query = q }; classes = S; writes = w }) h
-  answered t _ _ (onward found _ _ l (onward p _ _ q (onward S _ _ w (onward f _ _ i (refused e h))))) =
-      database e (record { before = record { before = record { before = record { before = t; found = found; sections = l }; place = p; query = q }; classes = S; writes = w }; form = f; is = i }) h
-  answered t _ _ (onward found _ _ l (onward p _ _ q (onward S _ _ w (onward f _ _ i (onward _ _ _ d reported))))) =
-      report (record {
-        before = record { before = record { before = record { before = record { before = t; found = found; sections = l }; place = p; query = q }; classes = S; writes = w }; form = f; is = i };
-        value = d.0;
-        objects = d.1;
-        reads = d.2;
-        writes = d.3;
-      })
+  answered t _ _ (onward found s b l k) = from_place (record { before = t; found = found; sections = l }) s b k
+
+  from_length : (a : Action) → action_of words ≡ Some a → (s : Status) (b : List ℕ) → Then (at_length job) (λ _. OnItsWay job) s b → Answer words job s b
+  from_length a e _ _ (refused _ h) = too_long a e h
+  from_length a e _ _ (onward _ s b h k) = answered (record { action = a; command = e; is_short = h }) s b k
 
   pub wholly_answered : (s : Status) (b : List ℕ) → AllTheWay words job s b → Answer words job s b
   wholly_answered _ _ (refused _ e) = usage e
-  wholly_answered _ _ (onward a _ _ e (refused _ h)) = too_long a e h
-  wholly_answered _ _ (onward a s b e (onward _ _ _ h k)) = answered (record { action = a; command = e; is_short = h }) s b k
+  wholly_answered _ _ (onward a s b e k) = from_length a e s b k
 
   -- each answer is one that is written
   pub answers_are_written : (s : Status) (b : List ℕ) → Answer words job s b → IsTrue (is_written s)

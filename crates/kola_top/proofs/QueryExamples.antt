@@ -10,7 +10,7 @@ use Rattle.kola_top.specs.declared.layout.LayoutWhy.TheVariants.{UnknownSection}
 use Rattle.kola_top.specs.declared.words.Action.TheVariants.{Run}
 use Rattle.kola_top.specs.Words.{action_of}
 use Rattle.kola_base.specs.Lexemes.{LWord, LNumber, LSign}
-use Rattle.kola_load.specs.Names.{is_name, is_among}
+use Rattle.kola_base.specs.QueryWords.{is_name, is_among}
 use Rattle.kola_top.specs.SelectForm.{SelectForm, spelled}
 use Rattle.kola_top.specs.SelectMeaning.{value_of_form, translation, visits_of_form}
 use Rattle.kola_top.specs.FaultLines.{layout_fault_line, missing_line, not_built_line}

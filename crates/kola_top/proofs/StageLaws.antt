@@ -1,10 +1,16 @@
 -- From what each stage answers to the answer of the line.
-use Rattle.std.proofs.Common.{◌≡◌, ℕ, List, Result, Ok, Err, sym, subst}
+use Rattle.std.proofs.Common.{◌≡◌, ℕ, List, true, Result, Ok, Err, refl, sym, subst}
 use Rattle.kola_top.specs.declared.refusal.Refusal.{Refusal}
 use Rattle.kola_top.specs.declared.refusal.Refusal.TheVariants.{Layout, NoQuery, Schema, NotBuilt, Database, Memory}
 use Rattle.kola_top.specs.declared.status.Status.{Status}
 use Rattle.kola_top.specs.Staged.{Says, Stage, Then, refused, onward}
-use Rattle.kola_top.specs.Refusals.{Refuses, Replies, IsOf, Passes}
+use Rattle.kola_top.specs.StageLine.{at_schema}
+use Rattle.kola_top.specs.Refusals.{of_schema, is_told, status_of, line_of, Refuses, Replies, IsOf, Passes}
+use Rattle.std.specs.Result.{IsErrAnd}
+use Rattle.kola_load.specs.SchemaAccepted.{greatest_nesting, IsFault}
+use Rattle.kola_load.specs.declared.schema_fault.SchemaFault.{SchemaFault}
+use Rattle.kola_load.specs.declared.schema_fault.SchemaFault.TheVariants.{At}
+use Rattle.kola_load.specs.declared.schema_fault.SchemaFault.TheVariants as fault
 
 -- what is said of one is said of the other
 pub refuses_too : (A B : Says) → ((s : Status) (b : List ℕ) → A s b → B s b) → (r : Refusal) → Refuses A r → Refuses B r
@@ -29,3 +35,25 @@ stops {F} {R} g rest r = refuses_too (IsOf g) (Then g rest) is r
 -- a stage accepts, so the line goes on
 pub goes : {F R : Type 0} (g : Stage F R) (rest : R → Says) (x : R) → g.accepts x → (r : Refusal) → Refuses (rest x) r → Refuses (Then g rest) r
 goes g rest x h r = refuses_too (rest x) (Then g rest) (λ s b k. onward x s b h k) r
+
+-- what a call that was refused hands on
+pub handed : {T : Type 0} (view : T → List ℕ) (A : Says) (r : Result T Refusal) (P : Refusal → Type 0) → IsErrAnd r P → ((e : Refusal) → P e → Refuses A e) → Replies view A r
+handed view A (Ok x) P h f = absurd h
+handed view A (Err e) P h f = f e h
+
+pub handed_pass : {F R T : Type 0} (g : Stage F R) (view : T → R) (r : Result T Refusal) (P : Refusal → Type 0) → IsErrAnd r P → ((e : Refusal) → P e → Refuses (IsOf g) e) → Passes g view r
+handed_pass g view (Ok x) P h f = absurd h
+handed_pass g view (Err e) P h f = f e h
+
+pub schema_refused : (text : List ℕ) (f : SchemaFault) → IsFault greatest_nesting text f → Refuses (IsOf (at_schema text)) (of_schema f)
+schema_refused text (At at why) h = ((at, why), h, refl, refl)
+schema_refused text fault.Memory h = tt
+
+-- a refusal that is told says its answer
+pub told_refuses : (A : Says) (r : Refusal) → is_told r ≡ true → Refuses A r → A (status_of r) (line_of r)
+told_refuses A (Layout x) t h = h
+told_refuses A (NoQuery x) t h = h
+told_refuses A (Schema x y) t h = h
+told_refuses A NotBuilt t h = h
+told_refuses A (Database x) t h = h
+told_refuses A Memory t h = cc

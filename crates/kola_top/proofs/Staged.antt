@@ -19,7 +19,7 @@ pub record IsOne {F R : Type 0} (g : Stage F R) : Type 0 where
 
 -- a stage refuses or accepts
 abbrev pub Goes : {F R : Type 0} → Stage F R → Type 0
-Goes g = ((e : F) × g.refuses e) ⊎ ((x : R) × g.accepts x)
+Goes {F = F} {R = R} g = ((e : F) × g.refuses e) ⊎ ((x : R) × g.accepts x)
 
 pub one_then : {F R : Type 0} (g : Stage F R) (rest : R → Says) → IsOne g → ((x : R) → g.accepts x → One (rest x)) → One (Then g rest)
 one_then g rest h each _ _ _ _ (refused e p) (refused f q) = h.one_refusal e f p q

@@ -1,5 +1,5 @@
 -- Why a job has no report, in the words of its answer; and what a call on the way to the report says.
-use Rattle.std.specs.Prelude.{◌≡◌, ℕ, List, Result, Ok, Err, codes}
+use Rattle.std.specs.Prelude.{◌≡◌, ℕ, Bool, true, false, List, Result, Ok, Err, codes}
 use Rattle.kola_load.specs.declared.schema_fault.SchemaFault.{SchemaFault}
 use Rattle.kola_load.specs.declared.schema_fault.SchemaFault.TheVariants as schema
 use Rattle.kola_load.specs.declared.fault.DbFault.{DbFault}
@@ -18,6 +18,11 @@ of_schema schema.Memory = Memory
 abbrev pub of_database : DbFault → Refusal
 of_database db.Memory = Memory
 of_database f = Database f
+
+-- a refusal that is told by a line
+abbrev pub is_told : Refusal → Bool
+is_told Memory = false
+is_told r = true
 
 abbrev pub status_of : Refusal → Status
 status_of (Layout f) = statuses.Layout
@@ -47,7 +52,7 @@ Replies view A (Err r) = Refuses A r
 
 -- a refusal of a stage: it has the status and the bytes of one
 abbrev pub IsOf : {F R : Type 0} → Stage F R → Status → List ℕ → Type 0
-IsOf g s b = (e : F) × g.refuses e × (s ≡ g.status e) × (b ≡ g.bytes e)
+IsOf {F = F} g s b = (e : F) × g.refuses e × (s ≡ g.status e) × (b ≡ g.bytes e)
 
 -- a call answers as a stage does
 abbrev pub Passes : {F R T : Type 0} → Stage F R → (T → R) → Result T Refusal → Type 0

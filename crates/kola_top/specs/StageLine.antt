@@ -51,11 +51,21 @@ at_database S text = record {
 pub data Reported (f : SelectForm) : Status → List ℕ → Type 0 where
   reported : Reported f statuses.Ok (report_text (report_of_form f))
 
--- a job of no more than the greatest length, on its way to the report
+-- a job of no more than the greatest length on its way to the report, a line for each stage, the last first
+abbrev pub FromDatabase : List ℕ → Sections → Classes → SelectForm → Says
+FromDatabase job found S f = Then (at_database S (text_in job found.database)) (λ _. Reported f)
+
+abbrev pub FromQuery : List ℕ → Sections → Span → Classes → Says
+FromQuery job found p S = Then (at_query (text_at job p)) (FromDatabase job found S)
+
+abbrev pub FromSchema : List ℕ → Sections → Span → Says
+FromSchema job found p = Then (at_schema (text_in job found.schema)) (FromQuery job found p)
+
+abbrev pub FromPlace : List ℕ → Sections → Says
+FromPlace job found = Then (at_place found) (FromSchema job found)
+
 abbrev pub OnItsWay : List ℕ → Says
-OnItsWay job =
-    Then (at_layout job) (λ found. Then (at_place found) (λ p. Then (at_schema (text_in job found.schema)) (λ S.
-    Then (at_query (text_at job p)) (λ f. Then (at_database S (text_in job found.database)) (λ _. Reported f)))))
+OnItsWay job = Then (at_layout job) (FromPlace job)
 
 abbrev pub AllTheWay : List (List ℕ) → List ℕ → Says
 AllTheWay words job = Then (at_words words) (λ _. Then (at_length job) (λ _. OnItsWay job))

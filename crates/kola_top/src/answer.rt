@@ -1,6 +1,6 @@
 //! The answer to a job that was read: its status and the bytes that are written.
 
-ghost use Rattle.std.specs.Prelude.{◌≡◌, ◌≤◌, ◌<◌, ℕ, List, IfOk, IfSome, IsTrue, Some, length, filter};
+ghost use Rattle.std.specs.Prelude.{◌≡◌, ◌≤◌, ◌<◌, ℕ, List, IfOk, IfSome, IsTrue, Some, true, length, filter};
 ghost use Rattle.kola_values.specs.Values.{VSet, of_items};
 ghost use Rattle.kola_canon.specs.Spelling.{value_spelling};
 ghost use Rattle.kola_term.specs.Terms.{CSet, FId, FSnd, FComp, FPair, FK, FIter};
@@ -8,7 +8,7 @@ ghost use Rattle.kola_text.specs.Spelling.{fun_spelling};
 ghost use Rattle.kola_top.specs.Stages.{text_in, greatest_length};
 ghost use Rattle.kola_top.specs.Answer.{Answer, is_memory, report_of_form, unchanged_report};
 ghost use Rattle.kola_top.specs.StageLine.{at_place, at_schema, at_query, at_database, OnItsWay};
-ghost use Rattle.kola_top.specs.Refusals.{Passes, Replies};
+ghost use Rattle.kola_top.specs.Refusals.{Passes, Replies, is_told, status_of, line_of};
 ghost use Rattle.kola_top.specs.FormViews.{form_view};
 ghost use Rattle.kola_top.specs.Report.{report_text};
 ghost use Rattle.kola_top.specs.Runs.{is_written};
@@ -32,7 +32,7 @@ use kola_schema::Schema;
 use kola_term::{LitSet, Term};
 use kola_text::print_term;
 use kola_values::Set;
-use std::alloc::{AllocError, Global};
+use std::alloc::Global;
 
 /// The status of an answer and the bytes that are written.
 #[derive(Drop)]
@@ -173,6 +173,19 @@ fn report_of(alloc: Global, job: &[u8]) -> Result<Vec<u8>, Refusal>
     Ok(bytes)
 }
 
+/// The answer of a refusal that is told by a line.
+fn refused(alloc: Global, refusal: &Refusal) -> Result<Reply, Memory>
+    ensures told { IfOk result (λ reply. is_told refusal.now ≡ true) }
+    ensures status { IfOk result (λ reply. reply.status ≡ status_of refusal.now) }
+    ensures line { IfOk result (λ reply. reply.bytes.items ≡ line_of refusal.now) }
+{
+    let bytes = refusal.line(alloc)?;
+    Ok(Reply {
+        status: refusal.status(),
+        bytes,
+    })
+}
+
 /// The answer to a job of no more than the greatest length.
 pub fn answer_to(alloc: Global, action: Action, job: &[u8]) -> Result<Reply, Memory>
     requires { length job.now ≤ greatest_length }
@@ -186,13 +199,6 @@ pub fn answer_to(alloc: Global, action: Action, job: &[u8]) -> Result<Reply, Mem
             status: Status::Ok,
             bytes,
         }),
-        Err(Refusal::Memory) => Err(AllocError),
-        Err(refusal) => {
-            let bytes = refusal.line(alloc)?;
-            Ok(Reply {
-                status: refusal.status(),
-                bytes,
-            })
-        }
+        Err(refusal) => refused(alloc, &refusal),
     }
 }

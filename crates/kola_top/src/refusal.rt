@@ -1,8 +1,8 @@
 //! Why a job has no report, with the status and the line of each refusal.
 
-ghost use Rattle.std.specs.Prelude.{◌≡◌, IfOk};
+ghost use Rattle.std.specs.Prelude.{◌≡◌, true, IfOk};
 ghost use Rattle.kola_top.specs.FaultLines.{not_built_line};
-ghost use Rattle.kola_top.specs.Refusals.{status_of, line_of};
+ghost use Rattle.kola_top.specs.Refusals.{is_told, status_of, line_of};
 
 use crate::fault_lines::{database_line, schema_line};
 use crate::layout::LayoutFault;
@@ -10,7 +10,7 @@ use crate::output::{layout_fault_line, missing_line, query_line};
 use crate::status::Status;
 use kola_core::Memory;
 use kola_load::{DbFault, SchemaFault, SchemaWhy};
-use std::alloc::{AllocFailed, Global};
+use std::alloc::{AllocError, AllocFailed, Global};
 
 /// Why a job has no report: the first refusal on its way.
 #[derive(Drop)]
@@ -90,9 +90,10 @@ impl Refusal {
         }
     }
 
-    /// The line that is then written; none where memory is wanted.
+    /// The line that is then written. Where memory is wanted there is none, and that is told again.
     pub fn line(&self, alloc: Global) -> Result<Vec<u8>, Memory>
-        ensures { IfOk result (λ v. v.items ≡ line_of self.now) }
+        ensures line { IfOk result (λ v. v.items ≡ line_of self.now) }
+        ensures told { IfOk result (λ _. is_told self.now ≡ true) }
     {
         match self {
             Refusal::Layout(fault) => Ok(layout_fault_line(alloc, *fault)?.into_bytes()),
@@ -100,7 +101,7 @@ impl Refusal {
             Refusal::Schema(at, why) => Ok(schema_line(alloc, *at, *why)?.into_bytes()),
             Refusal::NotBuilt => Ok(query_line(alloc, 0, "NotBuilt")?.into_bytes()),
             Refusal::Database(fault) => database_line(alloc, fault),
-            Refusal::Memory => Ok(Vec::new(alloc)),
+            Refusal::Memory => Err(AllocError),
         }
     }
 }

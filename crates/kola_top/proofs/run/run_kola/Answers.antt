@@ -1,4 +1,4 @@
-use Rattle.std.proofs.Common.{map, refl, sym}
+use Rattle.std.proofs.Common.{◌≡◌, Option, Some, None, map, refl, sym, ◌∙◌}
 use Rattle.std.specs.String.{string_bytes}
 use Rattle.kola_top.specs.declared.status.Status.TheVariants as statuses
 use Rattle.kola_top.proofs.RunLaws.{silent, usage_only, all_tell, all_complete, all_usage, all_long, all_too_long, all_replied}
@@ -12,9 +12,17 @@ pub returns-in_default-clause-complete : goal.returns-in_default-clause-complete
 returns-in_default-clause-complete g c =
     all_complete _ _ _ _ _ _ _ _ _ _ _ (all_usage _ _ _ (sym c.in_default.ensures) c.usage_line.ensures) c.write_answer.ensures
 
-pub returns-in-Ok-answer_to-clause-usage_only : goal.returns-in-Ok-answer_to-clause-usage_only
-returns-in-Ok-answer_to-clause-usage_only g c =
-    usage_only _ _ _ _ _ _ _ _ _ _ (c.in-Ok-answer_to.ensures.answer (map string_bytes c.args.words.now) (sym c.in-Some.ensures)) c.write_answer-in-Ok-answer_to.ensures
+none_some : {A : Type 0} (o : Option A) (x : A) → o ≡ None → o ≡ Some x → ⊥
+none_some o x p q = absurd (let i : None ≡ Some x = sym p ∙ q in cc)
+
+pub returns-in-Ok-answer_to-clause-usage : goal.returns-in-Ok-answer_to-clause-usage
+returns-in-Ok-answer_to-clause-usage g c =
+    let some = sym c.in-Some.ensures in
+    record {
+      comes = λ e. absurd (none_some _ _ e some);
+      only = usage_only _ _ _ _ _ _ _ _ _ _ (c.in-Ok-answer_to.ensures.answer (map string_bytes c.args.words.now) some) c.write_answer-in-Ok-answer_to.ensures;
+      unread = λ e. absurd (none_some _ _ e some);
+    }
 
 pub returns-in-Ok-answer_to-clause-silent : goal.returns-in-Ok-answer_to-clause-silent
 returns-in-Ok-answer_to-clause-silent g c =

@@ -118,7 +118,8 @@ fn texts_of_databases(rt: HostRuntime) -> Result<(), Fail> {
     Ok(())
 }
 
-fn is_value(alloc: Global, found: Option<&Value>, text: &str) -> Result<bool, Memory> {
+/// Whether a value is there and has the text; the empty text stands for none.
+pub(crate) fn is_value(alloc: Global, found: Option<&Value>, text: &str) -> Result<bool, Memory> {
     match found {
         Some(v) => {
             let found = value_text(alloc, v, &Ty::Unit)?;
@@ -143,7 +144,7 @@ fn has_value(
 }
 
 /// The sample's database.
-fn database(alloc: Global) -> Result<Option<Box<Db>>, Broken> {
+pub(crate) fn database(alloc: Global) -> Result<Option<Box<Db>>, Broken> {
     let schema = schema(alloc)?;
     let text = sample(alloc, "b", "[2,1]")?;
     let Ok(db) = read_db(alloc, &schema, text.as_bytes()) else {

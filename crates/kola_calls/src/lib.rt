@@ -9,7 +9,11 @@ mod databases;
 #[cfg(test)]
 mod jobs;
 #[cfg(test)]
+mod layouts;
+#[cfg(test)]
 mod names;
+#[cfg(test)]
+mod places;
 #[cfg(test)]
 mod samples;
 #[cfg(test)]

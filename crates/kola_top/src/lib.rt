@@ -16,8 +16,6 @@ mod section;
 mod select;
 mod select_laws;
 mod status;
-#[cfg(test)]
-mod tests;
 mod words;
 
 pub use answer_laws::{a_job_has_exactly_one_answer, answers_have_causes};

@@ -76,7 +76,7 @@ struct Labels {
     next: Name,
 }
 
-fn labels(alloc: Global) -> Result<Labels, Memory> {
+fn part_labels(alloc: Global) -> Result<Labels, Memory> {
     let part = Name::from_text(alloc, "Part")?;
     let number = Name::from_text(alloc, "number")?;
     let first = Name::from_text(alloc, "first")?;
@@ -133,7 +133,7 @@ fn part_of(alloc: Global, labels: &Labels, id: u32) -> Result<ObjectDef, Memory>
 
 /// The parts of the ids n, n - 1 and so on down to 1.
 fn objects(alloc: Global, n: u32) -> Result<Vec<ObjectDef>, Memory> {
-    let labels = labels(alloc)?;
+    let labels = part_labels(alloc)?;
     let mut objects = Vec::new(alloc);
     for k in 0..n {
         objects.push(part_of(alloc, &labels, n - k)?)?;

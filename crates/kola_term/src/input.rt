@@ -143,6 +143,29 @@ fn input_below(
     input_below(alloc, schema, ctx, child, input, rest)
 }
 
+/// The input type at a path below a part that is typed at the given type. `NoSuchPath` comes exactly where the part has no such
+/// path, `WrongKind` exactly where a constant stands there.
+pub fn input_at_part(
+    alloc: Global,
+    schema: &Schema,
+    ctx: &MetaCtx,
+    part: SubTerm,
+    ty: &Ty,
+    path: &[u8],
+) -> Result<Ty, PlaceFault>
+    requires { Typed schema.now (context_of ctx.now) (sub_tree part) (type_tree ty.now) }
+    ensures input { IfOk result
+        (λ w. place schema.now (context_of ctx.now) (sub_tree part.entry) (type_tree ty.now) path.now
+        ≡ Some (type_tree w)) }
+    ensures no_such_path { UnlessMemory result ((result ≡ Err PlaceFault.NoSuchPath)
+        ↔ (sub_at (sub_tree part.entry) path.now ≡ None)) }
+    ensures wrong_kind { UnlessMemory result ((result ≡ Err PlaceFault.WrongKind)
+        ↔ IsConstant (sub_at (sub_tree part.entry) path.now)) }
+{
+    let ty = ty.copy()?;
+    input_below(alloc, schema, ctx, part, ty, path)
+}
+
 /// The input type at a path of a term that is typed at the given type. `NoSuchPath` comes exactly where the term has no such
 /// path, `WrongKind` exactly where the part there is a constant.
 pub fn input_at(
@@ -162,6 +185,5 @@ pub fn input_at(
     ensures wrong_kind { UnlessMemory result ((result ≡ Err PlaceFault.WrongKind)
         ↔ IsConstant (sub_at (term_tree t.now) path.now)) }
 {
-    let ty = ty.copy()?;
-    input_below(alloc, schema, ctx, t.as_part(), ty, path.as_slice())
+    input_at_part(alloc, schema, ctx, t.as_part(), ty, path.as_slice())
 }

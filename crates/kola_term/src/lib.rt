@@ -19,7 +19,7 @@ mod unlimited;
 
 pub use constant::{Const, LitSet};
 pub use count::{depth, nodes};
-pub use input::input_at;
+pub use input::{input_at, input_at_part};
 pub use laws::{
     a_term_is_fine_or_has_one_first_fault, equal_parts_keep_the_value, fine_parts_keep_a_fine_term,
     parts_of_a_fine_term_are_fine, parts_of_one_type_keep_the_type, typed_functions_keep_types,

@@ -90,6 +90,17 @@ impl<'a> SubTerm<'a> {
         }
     }
 
+    /// The part of this part at a path below it; `None` exactly where there is no such path. It takes no memory.
+    pub fn at(self, path: &[u8]) -> Option<SubTerm<'a>>
+        ensures { option_map sub_tree result ≡ sub_at (sub_tree self.entry) path.now }
+    {
+        let mut at = self;
+        for n in path {
+            at = at.child(*n)?;
+        }
+        Some(at)
+    }
+
     /// The child of the part with a number, counted from 1; `None` exactly where there is none.
     pub fn child(self, n: u8) -> Option<SubTerm<'a>>
         ensures { option_map sub_tree result ≡ nth n (children (sub_tree self.entry)) }
@@ -115,9 +126,5 @@ impl Term {
 pub fn sub_at<'a>(t: &'a Term, path: &Path) -> Option<SubTerm<'a>>
     ensures { option_map sub_tree result ≡ sub_at (term_tree t.now) path.now }
 {
-    let mut at = t.as_part();
-    for n in path.as_slice() {
-        at = at.child(*n)?;
-    }
-    Some(at)
+    t.as_part().at(path.as_slice())
 }

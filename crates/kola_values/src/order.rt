@@ -1,6 +1,6 @@
 //! The total order of values.
 ghost use Rattle.std.specs.Prelude.{◌≡◌};
-ghost use Rattle.kola_values.specs.Values.{of_items, of_fields};
+ghost use Rattle.kola_values.specs.Values.{VSet, of_items, of_fields};
 ghost use Rattle.kola_values.specs.Order.{cmp, cmp_members, cmp_fields, rank, same};
 ghost use Rattle.kola_values.specs.Views.{value_tree};
 
@@ -72,6 +72,15 @@ fn cmp_entries(a: &ValueFields, b: &ValueFields) -> Ordering
         }
     }
     fs.len().cmp(&gs.len())
+}
+
+impl Set {
+    /// Whether two sets have the same members.
+    pub fn is(&self, other: &Set) -> bool
+        ensures { result ≡ same (VSet (of_items self.now)) (VSet (of_items other.now)) }
+    {
+        cmp_sets(self, other).is_eq()
+    }
 }
 
 impl Value {

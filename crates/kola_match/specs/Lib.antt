@@ -1,3 +1,6 @@
 pub mod Substitutions
 pub mod Holding
 pub mod Nodes
+pub mod Binds
+pub mod Pairs
+pub mod NodeViews

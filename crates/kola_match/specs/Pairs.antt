@@ -24,14 +24,16 @@ zipped _ _ = None
 abbrev pub alike : TermTree → TermTree → Option Sides
 alike x y = cond (same_node x y) (zipped (children x) (children y)) None
 
-abbrev pub AllSame : Sides → Type 0
-AllSame [] = Unit {0}
-AllSame (p ∷ ps) = (p.0 ≡ p.1) × AllSame ps
+-- what g makes of each side is the term beside it
+abbrev pub Beside : (TermTree → TermTree) → Sides → Type 0
+Beside g [] = Unit {0}
+Beside g (p ∷ ps) = (g p.0 ≡ p.1) × Beside g ps
 
--- each side gives the term beside it
 abbrev pub AllGive : Substitution → Sides → Type 0
-AllGive s [] = Unit {0}
-AllGive s (p ∷ ps) = (inst s p.0 ≡ p.1) × AllGive s ps
+AllGive s ps = Beside (inst s) ps
+
+abbrev pub AllSame : Sides → Type 0
+AllSame ps = Beside (λ t. t) ps
 
 abbrev pub pair_trees : Pairs → Sides
 pair_trees p.Leaf = []

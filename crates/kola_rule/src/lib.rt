@@ -1,0 +1,2 @@
+//! Rules.
+#![tactic(auto)]

@@ -1,0 +1,2 @@
+//! Instances of rules: substitutions, and the matcher that finds them.
+#![tactic(auto)]

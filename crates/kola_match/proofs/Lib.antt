@@ -1,0 +1,4 @@
+pub mod Closed
+pub mod Instances
+pub mod KindOut
+pub mod Commute

@@ -1,2 +1,6 @@
-//! Instances of rules: substitutions, and the matcher that finds them.
+//! Instances of rules: substitutions, and when a rule holds.
 #![tactic(auto)]
+
+mod facts;
+
+pub use facts::{places_go_with_substitutions, typed_substitutions_keep_types};

@@ -1,2 +1,7 @@
+pub mod Closed
+pub mod Instances
+pub mod KindOut
+pub mod Commute
 pub mod NodeLaws
 pub mod PairLaws
+pub mod BindLaws

@@ -4,3 +4,4 @@ pub mod Nodes
 pub mod Binds
 pub mod Pairs
 pub mod NodeViews
+pub mod FoundViews

@@ -1,5 +1,9 @@
-//! Instances of rules: what they are, and how they are found.
+//! Instances of rules: substitutions, when a rule holds, and how instances are found.
 #![tactic(auto)]
 
+mod facts;
+mod found;
 mod nodes;
 mod pairs;
+
+pub use facts::{places_go_with_substitutions, typed_substitutions_keep_types};

@@ -1,0 +1,13 @@
+pub mod Letters
+pub mod Composition
+pub mod Choice
+pub mod Restriction
+pub mod Truth
+pub mod Comparison
+pub mod Iteration
+pub mod Joining
+pub mod Nesting
+pub mod Quantifiers
+pub mod SetOperations
+pub mod Injectivity
+pub mod Laws

@@ -1,0 +1,12 @@
+//! What holds of the laws. Each is a function that does nothing.
+
+ghost use Rattle.kola_values.specs.Databases.{Classes};
+ghost use Rattle.kola_values.specs.Sets.{Each};
+ghost use Rattle.kola_match.specs.Holding.{Holds};
+ghost use Rattle.kola_laws.specs.Laws.{laws};
+
+/// Each law holds under every schema: in every database that meets it, under every typed substitution without variables
+/// whose functions in the law's conditions are injective there, both sides have one value or one truth.
+pub fn every_law_holds()
+    ensures { (S : Classes) → Each (Holds S) laws }
+{}

@@ -1,5 +1,5 @@
 -- What it is to take a term for a variable, or a type for a type variable.
-use Rattle.std.proofs.Common.{◌≡◌, ◌↔◌, ℕ, Bool, true, false, cond, ◌&&◌, refl, sym, ap, ◌∙◌, subst, List, [], ◌∷◌, ◌++◌, Option, Some, None, option_map, ◌⊎◌, inl, inr}
+use Rattle.std.proofs.Common.{◌≡◌, ◌↔◌, ℕ, Bool, true, false, cond, ◌&&◌, refl, sym, ap, ◌∙◌, subst, List, [], ◌∷◌, ◌++◌, Option, Some, None, option_map, ◌⊎◌, inl, inr, IfOk, Result, Ok, Err}
 use Rattle.std.specs.Str.{bytes_eq}
 use Rattle.kola_values.specs.Types.{TypeTree, same_type}
 use Rattle.kola_values.specs.Databases.{look_up}
@@ -214,3 +214,7 @@ finds_then false a b c P Q f g = λ s x y. g s ((f s).1 (x, y.0)) y.1
 
 pub finds_not : (a b c : Binds) (P Q : Substitution → Type 0) → Finds false a b P → Finds false a c (λ s. P s × Q s)
 finds_not a b c P Q f = λ s x y. f s x y.0
+
+pub if_ok : {A E : Type 0} (P Q : A → Type 0) (r : Result A E) → IfOk r P → ((a : A) → P a → Q a) → IfOk r Q
+if_ok P Q (Ok a) h f = f a h
+if_ok P Q (Err e) h f = tt

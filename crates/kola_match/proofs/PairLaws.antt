@@ -1,13 +1,13 @@
 -- What the children of two nodes side by side say of the nodes.
 use Rattle.std.proofs.Common.{◌≡◌, ◌↔◌, ℕ, ◌+◌, ◌<◌, Bool, true, false, cond, ◌&&◌, refl, sym, ap, ap₂, ◌∙◌, subst, List, [], ◌∷◌, map, Option, Some, None, option_map, sum_by, arith}
-use Rattle.kola_term.specs.Terms.{TermTree}
+use Rattle.kola_term.specs.Terms.{FunTree, FMeta, PredTree, PMeta, ConstTree, CMeta, TermTree, TermF, TermP, TermC}
 use Rattle.kola_term.specs.Places.{children}
 use Rattle.kola_term.specs.Counts.{nodes}
 use Rattle.kola_term.proofs.ByChildren.{nodes_by_children}
 use Rattle.kola_term.proofs.Inversions.{some_same}
 use Rattle.kola_match.specs.Nodes.{same_node, is_variable}
 use Rattle.kola_match.specs.Substitutions.{Substitution, inst}
-use Rattle.kola_match.specs.Pairs.{Sides, zipped, alike, Beside, AllSame, AllGive}
+use Rattle.kola_match.specs.Pairs.{Sides, zipped, alike, Beside, AllSame, AllGive, variable_name, variable_like, same_kind}
 use Rattle.kola_match.proofs.NodeLaws.{nodes_equal, node_itself, instance_node, instance_children}
 
 -- ---- two lists side by side
@@ -113,3 +113,36 @@ two_same x y a b c d r e g h = let k = alike_same x y ((a, b) ∷ (c, d) ∷ [])
 
 pub three_same : (x y a b c d f g : TermTree) (r : Bool) → Some ((a, b) ∷ (c, d) ∷ (f, g) ∷ []) ≡ alike x y → a ≡ b → c ≡ d → ((r ≡ true) ↔ (f ≡ g)) → ((r ≡ true) ↔ (x ≡ y))
 three_same x y a b c d f g r e p q h = let k = alike_same x y ((a, b) ∷ (c, d) ∷ (f, g) ∷ []) (sym e) in (λ z. k.0 (p, (q, (h.0 z, tt))), λ z. h.1 ((k.1 z).1.1.0))
+
+-- ---- a node that is no variable, and its instance
+
+no_fun : (f : FunTree) → None ≡ variable_name (TermF f) → is_variable (TermF f) ≡ false
+no_fun (FMeta n) e = absurd (cc)
+no_fun _ e = refl
+
+no_pred : (p : PredTree) → None ≡ variable_name (TermP p) → is_variable (TermP p) ≡ false
+no_pred (PMeta n) e = absurd (cc)
+no_pred _ e = refl
+
+no_const : (c : ConstTree) → None ≡ variable_name (TermC c) → is_variable (TermC c) ≡ false
+no_const (CMeta n) e = absurd (cc)
+no_const _ e = refl
+
+no_variable : (x : TermTree) → None ≡ variable_name x → is_variable x ≡ false
+no_variable (TermF f) e = no_fun f e
+no_variable (TermP p) e = no_pred p e
+no_variable (TermC c) e = no_const c e
+
+-- an instance of the node is the other one where the instances of its children are the children beside them
+pub gives : (x y : TermTree) (ps : Sides) → None ≡ variable_name x → Some ps ≡ alike x y → (s : Substitution) → (AllGive s ps ↔ (inst s x ≡ y))
+gives x y ps v e s = alike_gives s x y ps (no_variable x v) (sym e)
+
+pub gives_none : (x y : TermTree) → None ≡ variable_name x → None ≡ alike x y → (s : Substitution) → inst s x ≡ y → ⊥
+gives_none x y v e s h = alike_none s x y (no_variable x v) (sym e) h
+
+-- the variable of the name, of the other's kind
+pub variable_is : (x t : TermTree) (n : List ℕ) → Some n ≡ variable_name x → true ≡ same_kind x t → variable_like t n ≡ x
+variable_is (TermF (FMeta m)) (TermF f) n e h = ap (λ k. TermF (FMeta k)) (some_same n m e)
+variable_is (TermP (PMeta m)) (TermP f) n e h = ap (λ k. TermP (PMeta k)) (some_same n m e)
+variable_is (TermC (CMeta m)) (TermC f) n e h = ap (λ k. TermC (CMeta k)) (some_same n m e)
+variable_is _ _ n e h = absurd (cc)

@@ -12,3 +12,6 @@ name_at n = n.now
 -- a variable's name with its term
 abbrev pub part_entry : List ℕ × SubTerm → List ℕ × TermTree
 part_entry e = (e.0, sub_tree e.1)
+
+abbrev pub part_at : Bor SubTerm → TermTree
+part_at p = sub_tree p.now

@@ -58,3 +58,9 @@ variable_name _ = None
 abbrev pub first_like : TermTree → List ℕ → Found TermTree → Option TermTree
 first_like t n [] = None
 first_like t n (e ∷ es) = cond (bytes_eq n e.0 && same_kind t e.1) (Some e.1) (first_like t n es)
+
+-- the variable of the name, of the kind of t
+abbrev pub variable_like : TermTree → List ℕ → TermTree
+variable_like (TermF f) n = TermF (FMeta n)
+variable_like (TermP p) n = TermP (PMeta n)
+variable_like (TermC c) n = TermC (CMeta n)

@@ -3,6 +3,7 @@
 
 mod facts;
 mod found;
+mod matching;
 mod nodes;
 mod pairs;
 

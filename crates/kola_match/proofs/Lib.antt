@@ -5,3 +5,4 @@ pub mod Commute
 pub mod NodeLaws
 pub mod PairLaws
 pub mod BindLaws
+pub mod FieldLaws

@@ -1,6 +1,18 @@
 //! The 88 laws of the algebra, each of which holds in every database.
 #![tactic(auto)]
 
+mod choice;
+mod comparison;
+mod composition;
 mod facts;
+mod injectivity;
+mod iteration;
+mod joining;
+mod maker;
+mod nesting;
+mod quantifiers;
+mod restriction;
+mod set_operations;
+mod truth;
 
 pub use facts::every_law_holds;

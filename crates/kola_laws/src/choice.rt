@@ -1,13 +1,28 @@
 //! The laws of choice.
 
+ghost use Rattle.std.specs.Prelude.{◌≡◌, ◌++◌, map, OnOk};
 ghost use Rattle.kola_rule.specs.RuleViews.{rule_tree};
-ghost use Rattle.kola_laws.specs.Choice.{if_true, if_false, if_same, if_not, if_comp};
+ghost use Rattle.kola_laws.specs.Choice.{choice, if_true, if_false, if_same, if_not, if_comp};
 ghost use Rattle.kola_laws.specs.Making.{MakesRule};
 
-use crate::maker::{MadeRule, Maker};
+use crate::maker::{MadeRule, Maker, add};
+use kola_core::Memory;
+use kola_rule::Rule;
+
+/// Adds these laws at the end of rules.
+pub fn choice(m: Maker, rules: &mut Vec<Rule>) -> Result<(), Memory>
+    ensures { OnOk result (map rule_tree rules.new.items ≡ map rule_tree rules.old.items ++ choice) }
+{
+    add(rules, if_true(m))?;
+    add(rules, if_false(m))?;
+    add(rules, if_same(m))?;
+    add(rules, if_not(m))?;
+    add(rules, if_comp(m))?;
+    Ok(())
+}
 
 /// `if(KP(true), f, g) = f`
-pub fn if_true(m: Maker) -> MadeRule
+fn if_true(m: Maker) -> MadeRule
     ensures { MakesRule rule_tree result if_true }
 {
     let vars = m.fun_var(
@@ -23,7 +38,7 @@ pub fn if_true(m: Maker) -> MadeRule
 }
 
 /// `if(KP(false), f, g) = g`
-pub fn if_false(m: Maker) -> MadeRule
+fn if_false(m: Maker) -> MadeRule
     ensures { MakesRule rule_tree result if_false }
 {
     let vars = m.fun_var(
@@ -39,7 +54,7 @@ pub fn if_false(m: Maker) -> MadeRule
 }
 
 /// `if(p, f, f) = f`
-pub fn if_same(m: Maker) -> MadeRule
+fn if_same(m: Maker) -> MadeRule
     ensures { MakesRule rule_tree result if_same }
 {
     let vars = m.pred_var(
@@ -54,7 +69,7 @@ pub fn if_same(m: Maker) -> MadeRule
 }
 
 /// `if(~p, f, g) = if(p, g, f)`
-pub fn if_not(m: Maker) -> MadeRule
+fn if_not(m: Maker) -> MadeRule
     ensures { MakesRule rule_tree result if_not }
 {
     let vars = m.pred_var(
@@ -74,7 +89,7 @@ pub fn if_not(m: Maker) -> MadeRule
 }
 
 /// `(if(p, f, g) o h) = if((p @ h), (f o h), (g o h))`
-pub fn if_comp(m: Maker) -> MadeRule
+fn if_comp(m: Maker) -> MadeRule
     ensures { MakesRule rule_tree result if_comp }
 {
     let vars = m.pred_var(

@@ -1,13 +1,29 @@
 //! The laws of comparisons.
 
+ghost use Rattle.std.specs.Prelude.{◌≡◌, ◌++◌, map, OnOk};
 ghost use Rattle.kola_rule.specs.RuleViews.{rule_tree};
-ghost use Rattle.kola_laws.specs.Comparison.{inv_def, cp_def, eq_self, eq_comm, not_le, le_or};
+ghost use Rattle.kola_laws.specs.Comparison.{comparison, inv_def, cp_def, eq_self, eq_comm, not_le, le_or};
 ghost use Rattle.kola_laws.specs.Making.{MakesRule};
 
-use crate::maker::{MadeRule, Maker};
+use crate::maker::{MadeRule, Maker, add};
+use kola_core::Memory;
+use kola_rule::Rule;
+
+/// Adds these laws at the end of rules.
+pub fn comparison(m: Maker, rules: &mut Vec<Rule>) -> Result<(), Memory>
+    ensures { OnOk result (map rule_tree rules.new.items ≡ map rule_tree rules.old.items ++ comparison) }
+{
+    add(rules, inv_def(m))?;
+    add(rules, cp_def(m))?;
+    add(rules, eq_self(m))?;
+    add(rules, eq_comm(m))?;
+    add(rules, not_le(m))?;
+    add(rules, le_or(m))?;
+    Ok(())
+}
 
 /// `inv(p) = (p @ <snd, fst>)`
-pub fn inv_def(m: Maker) -> MadeRule
+fn inv_def(m: Maker) -> MadeRule
     ensures { MakesRule rule_tree result inv_def }
 {
     let vars = m.pred_var("p", m.pair_type(m.ty("b"), m.ty("a")), m.no_vars());
@@ -18,7 +34,7 @@ pub fn inv_def(m: Maker) -> MadeRule
 }
 
 /// `CP(p, x) = (p @ <K(x), id>)`
-pub fn cp_def(m: Maker) -> MadeRule
+fn cp_def(m: Maker) -> MadeRule
     ensures { MakesRule rule_tree result cp_def }
 {
     let vars = m.pred_var(
@@ -33,7 +49,7 @@ pub fn cp_def(m: Maker) -> MadeRule
 }
 
 /// `(eq @ <f, f>) = KP(true)`
-pub fn eq_self(m: Maker) -> MadeRule
+fn eq_self(m: Maker) -> MadeRule
     ensures { MakesRule rule_tree result eq_self }
 {
     let vars = m.fun_var("f", m.ty("a"), m.ty("b"), m.no_vars());
@@ -44,7 +60,7 @@ pub fn eq_self(m: Maker) -> MadeRule
 }
 
 /// `(eq @ <snd, fst>) = eq`
-pub fn eq_comm(m: Maker) -> MadeRule
+fn eq_comm(m: Maker) -> MadeRule
     ensures { MakesRule rule_tree result eq_comm }
 {
     let vars = m.no_vars();
@@ -55,7 +71,7 @@ pub fn eq_comm(m: Maker) -> MadeRule
 }
 
 /// `~le = (lt @ <snd, fst>)`
-pub fn not_le(m: Maker) -> MadeRule
+fn not_le(m: Maker) -> MadeRule
     ensures { MakesRule rule_tree result not_le }
 {
     let vars = m.no_vars();
@@ -66,7 +82,7 @@ pub fn not_le(m: Maker) -> MadeRule
 }
 
 /// `le = (lt | eq)`
-pub fn le_or(m: Maker) -> MadeRule
+fn le_or(m: Maker) -> MadeRule
     ensures { MakesRule rule_tree result le_or }
 {
     let vars = m.no_vars();

@@ -1,13 +1,37 @@
 //! The laws of composition, pairs and constants.
 
+ghost use Rattle.std.specs.Prelude.{◌≡◌, ◌++◌, map, OnOk};
 ghost use Rattle.kola_rule.specs.RuleViews.{rule_tree};
-ghost use Rattle.kola_laws.specs.Composition.{id_left, id_right, assoc, fst_pair, snd_pair, pair_eta, pair_id, pair_comp, times_def, times_pair, fst_times, snd_times, const_comp, curry_def};
+ghost use Rattle.kola_laws.specs.Composition.{composition, id_left, id_right, assoc, fst_pair, snd_pair, pair_eta, pair_id, pair_comp, times_def, times_pair, fst_times, snd_times, const_comp, curry_def};
 ghost use Rattle.kola_laws.specs.Making.{MakesRule};
 
-use crate::maker::{MadeRule, Maker};
+use crate::maker::{MadeRule, Maker, add};
+use kola_core::Memory;
+use kola_rule::Rule;
+
+/// Adds these laws at the end of rules.
+pub fn composition(m: Maker, rules: &mut Vec<Rule>) -> Result<(), Memory>
+    ensures { OnOk result (map rule_tree rules.new.items ≡ map rule_tree rules.old.items ++ composition) }
+{
+    add(rules, id_left(m))?;
+    add(rules, id_right(m))?;
+    add(rules, assoc(m))?;
+    add(rules, fst_pair(m))?;
+    add(rules, snd_pair(m))?;
+    add(rules, pair_eta(m))?;
+    add(rules, pair_id(m))?;
+    add(rules, pair_comp(m))?;
+    add(rules, times_def(m))?;
+    add(rules, times_pair(m))?;
+    add(rules, fst_times(m))?;
+    add(rules, snd_times(m))?;
+    add(rules, const_comp(m))?;
+    add(rules, curry_def(m))?;
+    Ok(())
+}
 
 /// `(id o f) = f`
-pub fn id_left(m: Maker) -> MadeRule
+fn id_left(m: Maker) -> MadeRule
     ensures { MakesRule rule_tree result id_left }
 {
     let vars = m.fun_var("f", m.ty("a"), m.ty("b"), m.no_vars());
@@ -18,7 +42,7 @@ pub fn id_left(m: Maker) -> MadeRule
 }
 
 /// `(f o id) = f`
-pub fn id_right(m: Maker) -> MadeRule
+fn id_right(m: Maker) -> MadeRule
     ensures { MakesRule rule_tree result id_right }
 {
     let vars = m.fun_var("f", m.ty("a"), m.ty("b"), m.no_vars());
@@ -29,7 +53,7 @@ pub fn id_right(m: Maker) -> MadeRule
 }
 
 /// `((f o g) o h) = (f o (g o h))`
-pub fn assoc(m: Maker) -> MadeRule
+fn assoc(m: Maker) -> MadeRule
     ensures { MakesRule rule_tree result assoc }
 {
     let vars = m.fun_var(
@@ -50,7 +74,7 @@ pub fn assoc(m: Maker) -> MadeRule
 }
 
 /// `(fst o <f, g>) = f`
-pub fn fst_pair(m: Maker) -> MadeRule
+fn fst_pair(m: Maker) -> MadeRule
     ensures { MakesRule rule_tree result fst_pair }
 {
     let vars = m.fun_var(
@@ -66,7 +90,7 @@ pub fn fst_pair(m: Maker) -> MadeRule
 }
 
 /// `(snd o <f, g>) = g`
-pub fn snd_pair(m: Maker) -> MadeRule
+fn snd_pair(m: Maker) -> MadeRule
     ensures { MakesRule rule_tree result snd_pair }
 {
     let vars = m.fun_var(
@@ -82,7 +106,7 @@ pub fn snd_pair(m: Maker) -> MadeRule
 }
 
 /// `<(fst o f), (snd o f)> = f`
-pub fn pair_eta(m: Maker) -> MadeRule
+fn pair_eta(m: Maker) -> MadeRule
     ensures { MakesRule rule_tree result pair_eta }
 {
     let vars = m.fun_var(
@@ -98,7 +122,7 @@ pub fn pair_eta(m: Maker) -> MadeRule
 }
 
 /// `<fst, snd> = id`
-pub fn pair_id(m: Maker) -> MadeRule
+fn pair_id(m: Maker) -> MadeRule
     ensures { MakesRule rule_tree result pair_id }
 {
     let vars = m.no_vars();
@@ -109,7 +133,7 @@ pub fn pair_id(m: Maker) -> MadeRule
 }
 
 /// `(<f, g> o h) = <(f o h), (g o h)>`
-pub fn pair_comp(m: Maker) -> MadeRule
+fn pair_comp(m: Maker) -> MadeRule
     ensures { MakesRule rule_tree result pair_comp }
 {
     let vars = m.fun_var(
@@ -133,7 +157,7 @@ pub fn pair_comp(m: Maker) -> MadeRule
 }
 
 /// `(f * g) = <(f o fst), (g o snd)>`
-pub fn times_def(m: Maker) -> MadeRule
+fn times_def(m: Maker) -> MadeRule
     ensures { MakesRule rule_tree result times_def }
 {
     let vars = m.fun_var(
@@ -149,7 +173,7 @@ pub fn times_def(m: Maker) -> MadeRule
 }
 
 /// `((f * g) o <h, k>) = <(f o h), (g o k)>`
-pub fn times_pair(m: Maker) -> MadeRule
+fn times_pair(m: Maker) -> MadeRule
     ensures { MakesRule rule_tree result times_pair }
 {
     let vars = m.fun_var(
@@ -181,7 +205,7 @@ pub fn times_pair(m: Maker) -> MadeRule
 }
 
 /// `(fst o (f * g)) = (f o fst)`
-pub fn fst_times(m: Maker) -> MadeRule
+fn fst_times(m: Maker) -> MadeRule
     ensures { MakesRule rule_tree result fst_times }
 {
     let vars = m.fun_var(
@@ -197,7 +221,7 @@ pub fn fst_times(m: Maker) -> MadeRule
 }
 
 /// `(snd o (f * g)) = (g o snd)`
-pub fn snd_times(m: Maker) -> MadeRule
+fn snd_times(m: Maker) -> MadeRule
     ensures { MakesRule rule_tree result snd_times }
 {
     let vars = m.fun_var(
@@ -213,7 +237,7 @@ pub fn snd_times(m: Maker) -> MadeRule
 }
 
 /// `(K(x) o f) = K(x)`
-pub fn const_comp(m: Maker) -> MadeRule
+fn const_comp(m: Maker) -> MadeRule
     ensures { MakesRule rule_tree result const_comp }
 {
     let vars = m.fun_var(
@@ -229,7 +253,7 @@ pub fn const_comp(m: Maker) -> MadeRule
 }
 
 /// `C(f, x) = (f o <K(x), id>)`
-pub fn curry_def(m: Maker) -> MadeRule
+fn curry_def(m: Maker) -> MadeRule
     ensures { MakesRule rule_tree result curry_def }
 {
     let vars = m.fun_var(

@@ -1,13 +1,27 @@
 //! The laws of injective functions.
 
+ghost use Rattle.std.specs.Prelude.{◌≡◌, ◌++◌, map, OnOk};
 ghost use Rattle.kola_rule.specs.RuleViews.{rule_tree};
-ghost use Rattle.kola_laws.specs.Injectivity.{eq_inj, in_inj, isect_inj, minus_inj};
+ghost use Rattle.kola_laws.specs.Injectivity.{injectivity, eq_inj, in_inj, isect_inj, minus_inj};
 ghost use Rattle.kola_laws.specs.Making.{MakesRule};
 
-use crate::maker::{MadeRule, Maker};
+use crate::maker::{MadeRule, Maker, add};
+use kola_core::Memory;
+use kola_rule::Rule;
+
+/// Adds these laws at the end of rules.
+pub fn injectivity(m: Maker, rules: &mut Vec<Rule>) -> Result<(), Memory>
+    ensures { OnOk result (map rule_tree rules.new.items ≡ map rule_tree rules.old.items ++ injectivity) }
+{
+    add(rules, eq_inj(m))?;
+    add(rules, in_inj(m))?;
+    add(rules, isect_inj(m))?;
+    add(rules, minus_inj(m))?;
+    Ok(())
+}
 
 /// `(eq @ (f * f)) = eq`
-pub fn eq_inj(m: Maker) -> MadeRule
+fn eq_inj(m: Maker) -> MadeRule
     ensures { MakesRule rule_tree result eq_inj }
 {
     let vars = m.fun_var("f", m.ty("a"), m.ty("b"), m.no_vars());
@@ -18,7 +32,7 @@ pub fn eq_inj(m: Maker) -> MadeRule
 }
 
 /// `(in @ (f * iterate(KP(true), f))) = in`
-pub fn in_inj(m: Maker) -> MadeRule
+fn in_inj(m: Maker) -> MadeRule
     ensures { MakesRule rule_tree result in_inj }
 {
     let vars = m.fun_var("f", m.ty("a"), m.ty("b"), m.no_vars());
@@ -32,7 +46,7 @@ pub fn in_inj(m: Maker) -> MadeRule
 }
 
 /// `(iterate(KP(true), f) o isect) = (isect o (iterate(KP(true), f) * iterate(KP(true), f)))`
-pub fn isect_inj(m: Maker) -> MadeRule
+fn isect_inj(m: Maker) -> MadeRule
     ensures { MakesRule rule_tree result isect_inj }
 {
     let vars = m.fun_var("f", m.ty("a"), m.ty("b"), m.no_vars());
@@ -49,7 +63,7 @@ pub fn isect_inj(m: Maker) -> MadeRule
 }
 
 /// `(iterate(KP(true), f) o minus) = (minus o (iterate(KP(true), f) * iterate(KP(true), f)))`
-pub fn minus_inj(m: Maker) -> MadeRule
+fn minus_inj(m: Maker) -> MadeRule
     ensures { MakesRule rule_tree result minus_inj }
 {
     let vars = m.fun_var("f", m.ty("a"), m.ty("b"), m.no_vars());

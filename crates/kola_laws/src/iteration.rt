@@ -1,13 +1,33 @@
 //! The laws of iteration over sets.
 
+ghost use Rattle.std.specs.Prelude.{◌≡◌, ◌++◌, map, OnOk};
 ghost use Rattle.kola_rule.specs.RuleViews.{rule_tree};
-ghost use Rattle.kola_laws.specs.Iteration.{iterate_id, iterate_iterate, iter_snd, iter_iter, iter_env, iter_const, flat_iterate, flat_flat, flat_iter, iterate_iter};
+ghost use Rattle.kola_laws.specs.Iteration.{iteration, iterate_id, iterate_iterate, iter_snd, iter_iter, iter_env, iter_const, flat_iterate, flat_flat, flat_iter, iterate_iter};
 ghost use Rattle.kola_laws.specs.Making.{MakesRule};
 
-use crate::maker::{MadeRule, Maker};
+use crate::maker::{MadeRule, Maker, add};
+use kola_core::Memory;
+use kola_rule::Rule;
+
+/// Adds these laws at the end of rules.
+pub fn iteration(m: Maker, rules: &mut Vec<Rule>) -> Result<(), Memory>
+    ensures { OnOk result (map rule_tree rules.new.items ≡ map rule_tree rules.old.items ++ iteration) }
+{
+    add(rules, iterate_id(m))?;
+    add(rules, iterate_iterate(m))?;
+    add(rules, iter_snd(m))?;
+    add(rules, iter_iter(m))?;
+    add(rules, iter_env(m))?;
+    add(rules, iter_const(m))?;
+    add(rules, flat_iterate(m))?;
+    add(rules, flat_flat(m))?;
+    add(rules, flat_iter(m))?;
+    add(rules, iterate_iter(m))?;
+    Ok(())
+}
 
 /// `iterate(KP(true), id) = id`
-pub fn iterate_id(m: Maker) -> MadeRule
+fn iterate_id(m: Maker) -> MadeRule
     ensures { MakesRule rule_tree result iterate_id }
 {
     let vars = m.no_vars();
@@ -18,7 +38,7 @@ pub fn iterate_id(m: Maker) -> MadeRule
 }
 
 /// `(iterate(p, f) o iterate(q, g)) = iterate((q & (p @ g)), (f o g))`
-pub fn iterate_iterate(m: Maker) -> MadeRule
+fn iterate_iterate(m: Maker) -> MadeRule
     ensures { MakesRule rule_tree result iterate_iterate }
 {
     let vars = m.pred_var(
@@ -48,7 +68,7 @@ pub fn iterate_iterate(m: Maker) -> MadeRule
 }
 
 /// `iter((p @ snd), (f o snd)) = (iterate(p, f) o snd)`
-pub fn iter_snd(m: Maker) -> MadeRule
+fn iter_snd(m: Maker) -> MadeRule
     ensures { MakesRule rule_tree result iter_snd }
 {
     let vars = m.pred_var(
@@ -63,7 +83,7 @@ pub fn iter_snd(m: Maker) -> MadeRule
 }
 
 /// `(iter(p, f) o <fst, iter(q, g)>) = iter((q & (p @ <fst, g>)), (f o <fst, g>))`
-pub fn iter_iter(m: Maker) -> MadeRule
+fn iter_iter(m: Maker) -> MadeRule
     ensures { MakesRule rule_tree result iter_iter }
 {
     let vars = m.pred_var(
@@ -98,7 +118,7 @@ pub fn iter_iter(m: Maker) -> MadeRule
 }
 
 /// `(iter(p, f) o (h * id)) = iter((p @ (h * id)), (f o (h * id)))`
-pub fn iter_env(m: Maker) -> MadeRule
+fn iter_env(m: Maker) -> MadeRule
     ensures { MakesRule rule_tree result iter_env }
 {
     let vars = m.pred_var(
@@ -121,7 +141,7 @@ pub fn iter_env(m: Maker) -> MadeRule
 }
 
 /// `(iter(p, f) o <K(x), g>) = (iterate((p @ <K(x), id>), (f o <K(x), id>)) o g)`
-pub fn iter_const(m: Maker) -> MadeRule
+fn iter_const(m: Maker) -> MadeRule
     ensures { MakesRule rule_tree result iter_const }
 {
     let vars = m.pred_var(
@@ -154,7 +174,7 @@ pub fn iter_const(m: Maker) -> MadeRule
 }
 
 /// `(flat o iterate(KP(true), iterate(p, f))) = (iterate(p, f) o flat)`
-pub fn flat_iterate(m: Maker) -> MadeRule
+fn flat_iterate(m: Maker) -> MadeRule
     ensures { MakesRule rule_tree result flat_iterate }
 {
     let vars = m.pred_var(
@@ -172,7 +192,7 @@ pub fn flat_iterate(m: Maker) -> MadeRule
 }
 
 /// `(flat o flat) = (flat o iterate(KP(true), flat))`
-pub fn flat_flat(m: Maker) -> MadeRule
+fn flat_flat(m: Maker) -> MadeRule
     ensures { MakesRule rule_tree result flat_flat }
 {
     let vars = m.no_vars();
@@ -183,7 +203,7 @@ pub fn flat_flat(m: Maker) -> MadeRule
 }
 
 /// `(flat o iter(KP(true), iter(p, f))) = (iter(p, f) o <fst, (flat o snd)>)`
-pub fn flat_iter(m: Maker) -> MadeRule
+fn flat_iter(m: Maker) -> MadeRule
     ensures { MakesRule rule_tree result flat_iter }
 {
     let vars = m.pred_var(
@@ -209,7 +229,7 @@ pub fn flat_iter(m: Maker) -> MadeRule
 }
 
 /// `(iterate(q, g) o iter(p, f)) = iter((p & (q @ f)), (g o f))`
-pub fn iterate_iter(m: Maker) -> MadeRule
+fn iterate_iter(m: Maker) -> MadeRule
     ensures { MakesRule rule_tree result iterate_iter }
 {
     let vars = m.pred_var(

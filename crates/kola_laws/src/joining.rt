@@ -1,13 +1,31 @@
 //! The laws of joins.
 
+ghost use Rattle.std.specs.Prelude.{◌≡◌, ◌++◌, map, OnOk};
 ghost use Rattle.kola_rule.specs.RuleViews.{rule_tree};
-ghost use Rattle.kola_laws.specs.Joining.{join_def, join_comm, join_left, join_right, join_select_left, join_select_right, iterate_join, join_isect};
+ghost use Rattle.kola_laws.specs.Joining.{joining, join_def, join_comm, join_left, join_right, join_select_left, join_select_right, iterate_join, join_isect};
 ghost use Rattle.kola_laws.specs.Making.{MakesRule};
 
-use crate::maker::{MadeRule, Maker};
+use crate::maker::{MadeRule, Maker, add};
+use kola_core::Memory;
+use kola_rule::Rule;
+
+/// Adds these laws at the end of rules.
+pub fn joining(m: Maker, rules: &mut Vec<Rule>) -> Result<(), Memory>
+    ensures { OnOk result (map rule_tree rules.new.items ≡ map rule_tree rules.old.items ++ joining) }
+{
+    add(rules, join_def(m))?;
+    add(rules, join_comm(m))?;
+    add(rules, join_left(m))?;
+    add(rules, join_right(m))?;
+    add(rules, join_select_left(m))?;
+    add(rules, join_select_right(m))?;
+    add(rules, iterate_join(m))?;
+    add(rules, join_isect(m))?;
+    Ok(())
+}
 
 /// `join(p, f) = (flat o (iter(KP(true), (iter(p, f) o <snd, fst>)) o <snd, fst>))`
-pub fn join_def(m: Maker) -> MadeRule
+fn join_def(m: Maker) -> MadeRule
     ensures { MakesRule rule_tree result join_def }
 {
     let vars = m.pred_var(
@@ -36,7 +54,7 @@ pub fn join_def(m: Maker) -> MadeRule
 }
 
 /// `join(p, f) = (join((p @ <snd, fst>), (f o <snd, fst>)) o <snd, fst>)`
-pub fn join_comm(m: Maker) -> MadeRule
+fn join_comm(m: Maker) -> MadeRule
     ensures { MakesRule rule_tree result join_comm }
 {
     let vars = m.pred_var(
@@ -62,7 +80,7 @@ pub fn join_comm(m: Maker) -> MadeRule
 }
 
 /// `(join(p, f) o (iterate(q, g) * id)) = join(((q @ fst) & (p @ (g * id))), (f o (g * id)))`
-pub fn join_left(m: Maker) -> MadeRule
+fn join_left(m: Maker) -> MadeRule
     ensures { MakesRule rule_tree result join_left }
 {
     let vars = m.pred_var(
@@ -95,7 +113,7 @@ pub fn join_left(m: Maker) -> MadeRule
 }
 
 /// `(join(p, f) o (id * iterate(q, g))) = join(((q @ snd) & (p @ (id * g))), (f o (id * g)))`
-pub fn join_right(m: Maker) -> MadeRule
+fn join_right(m: Maker) -> MadeRule
     ensures { MakesRule rule_tree result join_right }
 {
     let vars = m.pred_var(
@@ -128,7 +146,7 @@ pub fn join_right(m: Maker) -> MadeRule
 }
 
 /// `join((p & (q @ fst)), f) = (join(p, f) o (iterate(q, id) * id))`
-pub fn join_select_left(m: Maker) -> MadeRule
+fn join_select_left(m: Maker) -> MadeRule
     ensures { MakesRule rule_tree result join_select_left }
 {
     let vars = m.pred_var(
@@ -151,7 +169,7 @@ pub fn join_select_left(m: Maker) -> MadeRule
 }
 
 /// `join((p & (q @ snd)), f) = (join(p, f) o (id * iterate(q, id)))`
-pub fn join_select_right(m: Maker) -> MadeRule
+fn join_select_right(m: Maker) -> MadeRule
     ensures { MakesRule rule_tree result join_select_right }
 {
     let vars = m.pred_var(
@@ -174,7 +192,7 @@ pub fn join_select_right(m: Maker) -> MadeRule
 }
 
 /// `(iterate(q, g) o join(p, f)) = join((p & (q @ f)), (g o f))`
-pub fn iterate_join(m: Maker) -> MadeRule
+fn iterate_join(m: Maker) -> MadeRule
     ensures { MakesRule rule_tree result iterate_join }
 {
     let vars = m.pred_var(
@@ -204,7 +222,7 @@ pub fn iterate_join(m: Maker) -> MadeRule
 }
 
 /// `join(eq, fst) = isect`
-pub fn join_isect(m: Maker) -> MadeRule
+fn join_isect(m: Maker) -> MadeRule
     ensures { MakesRule rule_tree result join_isect }
 {
     let vars = m.no_vars();

@@ -13,6 +13,8 @@ mod nesting;
 mod quantifiers;
 mod restriction;
 mod set_operations;
+mod table;
 mod truth;
 
 pub use facts::every_law_holds;
+pub use table::laws;

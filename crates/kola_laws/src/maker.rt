@@ -1,7 +1,7 @@
 //! Parts of the laws, made of what was made before. Each is handed the answers for its parts, so that no part is in hand
 //! where memory is wanted.
 
-ghost use Rattle.std.specs.Prelude.{◌≡◌, [], ◌∷◌, IfOk};
+ghost use Rattle.std.specs.Prelude.{◌≡◌, List, [], ◌∷◌, ◌++◌, map, IfOk, OnOk};
 ghost use Rattle.kola_values.specs.Types.{TypeTree, TVar, TSet, TPair};
 ghost use Rattle.kola_term.specs.Terms.{ConstTree, CMeta, FunTree, FId, FFst, FSnd, FFlat, FUnion, FIsect, FMinus, FComp, FPair, FTimes, FK, FC, FIf, FIterate, FIter, FJoin, FNest, FUnnest, FMeta, PredTree, PEq, PLt, PLe, PMember, PAt, PAnd, POr, PNot, PInv, PKP, PCP, PEx, PFa, PMeta, TermF, TermP};
 ghost use Rattle.kola_term.specs.TermView.{const_tree, fun_tree, pred_tree};
@@ -47,6 +47,18 @@ fn with_conditions(rule: Rule, when: Names) -> Rule
         left: rule.left,
         right: rule.right,
     }
+}
+
+/// Adds a rule at the end of others.
+#[tactic(auto, unfolding(crate::specs::Making::MakesRule))]
+pub fn add(rules: &mut Vec<Rule>, made: MadeRule) -> Result<(), Memory>
+    ensures { (before done : List RuleTree) (r : RuleTree) → MakesRule rule_tree made r →
+        map rule_tree rules.old.items ≡ before ++ done →
+        OnOk result (map rule_tree rules.new.items ≡ before ++ (done ++ r ∷ [])) }
+{
+    let rule = made?;
+    rules.push(rule)?;
+    Ok(())
 }
 
 impl Maker {

@@ -1,13 +1,28 @@
 //! The laws of nesting and unnesting.
 
+ghost use Rattle.std.specs.Prelude.{◌≡◌, ◌++◌, map, OnOk};
 ghost use Rattle.kola_rule.specs.RuleViews.{rule_tree};
-ghost use Rattle.kola_laws.specs.Nesting.{nest_def, unnest_def, nest_join, nest_unnest, nest_const};
+ghost use Rattle.kola_laws.specs.Nesting.{nesting, nest_def, unnest_def, nest_join, nest_unnest, nest_const};
 ghost use Rattle.kola_laws.specs.Making.{MakesRule};
 
-use crate::maker::{MadeRule, Maker};
+use crate::maker::{MadeRule, Maker, add};
+use kola_core::Memory;
+use kola_rule::Rule;
+
+/// Adds these laws at the end of rules.
+pub fn nesting(m: Maker, rules: &mut Vec<Rule>) -> Result<(), Memory>
+    ensures { OnOk result (map rule_tree rules.new.items ≡ map rule_tree rules.old.items ++ nesting) }
+{
+    add(rules, nest_def(m))?;
+    add(rules, unnest_def(m))?;
+    add(rules, nest_join(m))?;
+    add(rules, nest_unnest(m))?;
+    add(rules, nest_const(m))?;
+    Ok(())
+}
 
 /// `nest(f, g) = iter(KP(true), <snd, (iter((eq @ <(f o snd), fst>), (g o snd)) o <snd, fst>)>)`
-pub fn nest_def(m: Maker) -> MadeRule
+fn nest_def(m: Maker) -> MadeRule
     ensures { MakesRule rule_tree result nest_def }
 {
     let vars = m.fun_var(
@@ -35,7 +50,7 @@ pub fn nest_def(m: Maker) -> MadeRule
 }
 
 /// `unnest(f, g) = (flat o iterate(KP(true), (iter(KP(true), id) o <f, g>)))`
-pub fn unnest_def(m: Maker) -> MadeRule
+fn unnest_def(m: Maker) -> MadeRule
     ensures { MakesRule rule_tree result unnest_def }
 {
     let vars = m.fun_var(
@@ -60,7 +75,7 @@ pub fn unnest_def(m: Maker) -> MadeRule
 }
 
 /// `(iter(KP(true), <snd, (iter(p, f) o <snd, fst>)>) o <snd, fst>) = (nest(fst, snd) o <join(p, <fst, f>), fst>)`
-pub fn nest_join(m: Maker) -> MadeRule
+fn nest_join(m: Maker) -> MadeRule
     ensures { MakesRule rule_tree result nest_join }
 {
     let vars = m.pred_var(
@@ -92,7 +107,7 @@ pub fn nest_join(m: Maker) -> MadeRule
 }
 
 /// `(iter(KP(true), <snd, (flat o (iter(p, f) o <snd, fst>))>) o <snd, fst>) = (nest(fst, snd) o <(unnest(fst, snd) o join(p, <fst, f>)), fst>)`
-pub fn nest_unnest(m: Maker) -> MadeRule
+fn nest_unnest(m: Maker) -> MadeRule
     ensures { MakesRule rule_tree result nest_unnest }
 {
     let vars = m.pred_var(
@@ -133,7 +148,7 @@ pub fn nest_unnest(m: Maker) -> MadeRule
 }
 
 /// `(iter(KP(true), <snd, (iter(p, f) o <snd, K(x)>)>) o <id, K(y)>) = ((nest(fst, snd) o <join(p, <fst, f>), fst>) o <K(y), K(x)>)`
-pub fn nest_const(m: Maker) -> MadeRule
+fn nest_const(m: Maker) -> MadeRule
     ensures { MakesRule rule_tree result nest_const }
 {
     let vars = m.pred_var(

@@ -1,13 +1,32 @@
 //! The laws of quantifiers.
 
+ghost use Rattle.std.specs.Prelude.{◌≡◌, ◌++◌, map, OnOk};
 ghost use Rattle.kola_rule.specs.RuleViews.{rule_tree};
-ghost use Rattle.kola_laws.specs.Quantifiers.{not_ex, not_fa, in_ex, ex_or, fa_and, ex_and_env, ex_iter, ex_env, fa_env};
+ghost use Rattle.kola_laws.specs.Quantifiers.{quantifiers, not_ex, not_fa, in_ex, ex_or, fa_and, ex_and_env, ex_iter, ex_env, fa_env};
 ghost use Rattle.kola_laws.specs.Making.{MakesRule};
 
-use crate::maker::{MadeRule, Maker};
+use crate::maker::{MadeRule, Maker, add};
+use kola_core::Memory;
+use kola_rule::Rule;
+
+/// Adds these laws at the end of rules.
+pub fn quantifiers(m: Maker, rules: &mut Vec<Rule>) -> Result<(), Memory>
+    ensures { OnOk result (map rule_tree rules.new.items ≡ map rule_tree rules.old.items ++ quantifiers) }
+{
+    add(rules, not_ex(m))?;
+    add(rules, not_fa(m))?;
+    add(rules, in_ex(m))?;
+    add(rules, ex_or(m))?;
+    add(rules, fa_and(m))?;
+    add(rules, ex_and_env(m))?;
+    add(rules, ex_iter(m))?;
+    add(rules, ex_env(m))?;
+    add(rules, fa_env(m))?;
+    Ok(())
+}
 
 /// `~ex(p) = fa(~p)`
-pub fn not_ex(m: Maker) -> MadeRule
+fn not_ex(m: Maker) -> MadeRule
     ensures { MakesRule rule_tree result not_ex }
 {
     let vars = m.pred_var("p", m.pair_type(m.ty("a"), m.ty("b")), m.no_vars());
@@ -18,7 +37,7 @@ pub fn not_ex(m: Maker) -> MadeRule
 }
 
 /// `~fa(p) = ex(~p)`
-pub fn not_fa(m: Maker) -> MadeRule
+fn not_fa(m: Maker) -> MadeRule
     ensures { MakesRule rule_tree result not_fa }
 {
     let vars = m.pred_var("p", m.pair_type(m.ty("a"), m.ty("b")), m.no_vars());
@@ -29,7 +48,7 @@ pub fn not_fa(m: Maker) -> MadeRule
 }
 
 /// `in = ex(eq)`
-pub fn in_ex(m: Maker) -> MadeRule
+fn in_ex(m: Maker) -> MadeRule
     ensures { MakesRule rule_tree result in_ex }
 {
     let vars = m.no_vars();
@@ -40,7 +59,7 @@ pub fn in_ex(m: Maker) -> MadeRule
 }
 
 /// `ex((p | q)) = (ex(p) | ex(q))`
-pub fn ex_or(m: Maker) -> MadeRule
+fn ex_or(m: Maker) -> MadeRule
     ensures { MakesRule rule_tree result ex_or }
 {
     let vars = m.pred_var(
@@ -55,7 +74,7 @@ pub fn ex_or(m: Maker) -> MadeRule
 }
 
 /// `fa((p & q)) = (fa(p) & fa(q))`
-pub fn fa_and(m: Maker) -> MadeRule
+fn fa_and(m: Maker) -> MadeRule
     ensures { MakesRule rule_tree result fa_and }
 {
     let vars = m.pred_var(
@@ -70,7 +89,7 @@ pub fn fa_and(m: Maker) -> MadeRule
 }
 
 /// `ex((p & (q @ fst))) = (ex(p) & (q @ fst))`
-pub fn ex_and_env(m: Maker) -> MadeRule
+fn ex_and_env(m: Maker) -> MadeRule
     ensures { MakesRule rule_tree result ex_and_env }
 {
     let vars = m.pred_var(
@@ -85,7 +104,7 @@ pub fn ex_and_env(m: Maker) -> MadeRule
 }
 
 /// `(ex(p) @ <fst, iter(q, g)>) = ex((q & (p @ <fst, g>)))`
-pub fn ex_iter(m: Maker) -> MadeRule
+fn ex_iter(m: Maker) -> MadeRule
     ensures { MakesRule rule_tree result ex_iter }
 {
     let vars = m.pred_var(
@@ -112,7 +131,7 @@ pub fn ex_iter(m: Maker) -> MadeRule
 }
 
 /// `(ex(p) @ (h * id)) = ex((p @ (h * id)))`
-pub fn ex_env(m: Maker) -> MadeRule
+fn ex_env(m: Maker) -> MadeRule
     ensures { MakesRule rule_tree result ex_env }
 {
     let vars = m.pred_var(
@@ -127,7 +146,7 @@ pub fn ex_env(m: Maker) -> MadeRule
 }
 
 /// `(fa(p) @ (h * id)) = fa((p @ (h * id)))`
-pub fn fa_env(m: Maker) -> MadeRule
+fn fa_env(m: Maker) -> MadeRule
     ensures { MakesRule rule_tree result fa_env }
 {
     let vars = m.pred_var(

@@ -1,13 +1,30 @@
 //! The laws of predicates after a function.
 
+ghost use Rattle.std.specs.Prelude.{◌≡◌, ◌++◌, map, OnOk};
 ghost use Rattle.kola_rule.specs.RuleViews.{rule_tree};
-ghost use Rattle.kola_laws.specs.Restriction.{at_id, at_at, at_and, at_or, at_not, at_true, at_false};
+ghost use Rattle.kola_laws.specs.Restriction.{restriction, at_id, at_at, at_and, at_or, at_not, at_true, at_false};
 ghost use Rattle.kola_laws.specs.Making.{MakesRule};
 
-use crate::maker::{MadeRule, Maker};
+use crate::maker::{MadeRule, Maker, add};
+use kola_core::Memory;
+use kola_rule::Rule;
+
+/// Adds these laws at the end of rules.
+pub fn restriction(m: Maker, rules: &mut Vec<Rule>) -> Result<(), Memory>
+    ensures { OnOk result (map rule_tree rules.new.items ≡ map rule_tree rules.old.items ++ restriction) }
+{
+    add(rules, at_id(m))?;
+    add(rules, at_at(m))?;
+    add(rules, at_and(m))?;
+    add(rules, at_or(m))?;
+    add(rules, at_not(m))?;
+    add(rules, at_true(m))?;
+    add(rules, at_false(m))?;
+    Ok(())
+}
 
 /// `(p @ id) = p`
-pub fn at_id(m: Maker) -> MadeRule
+fn at_id(m: Maker) -> MadeRule
     ensures { MakesRule rule_tree result at_id }
 {
     let vars = m.pred_var("p", m.ty("a"), m.no_vars());
@@ -18,7 +35,7 @@ pub fn at_id(m: Maker) -> MadeRule
 }
 
 /// `((p @ f) @ g) = (p @ (f o g))`
-pub fn at_at(m: Maker) -> MadeRule
+fn at_at(m: Maker) -> MadeRule
     ensures { MakesRule rule_tree result at_at }
 {
     let vars = m.pred_var(
@@ -38,7 +55,7 @@ pub fn at_at(m: Maker) -> MadeRule
 }
 
 /// `((p & q) @ f) = ((p @ f) & (q @ f))`
-pub fn at_and(m: Maker) -> MadeRule
+fn at_and(m: Maker) -> MadeRule
     ensures { MakesRule rule_tree result at_and }
 {
     let vars = m.pred_var(
@@ -57,7 +74,7 @@ pub fn at_and(m: Maker) -> MadeRule
 }
 
 /// `((p | q) @ f) = ((p @ f) | (q @ f))`
-pub fn at_or(m: Maker) -> MadeRule
+fn at_or(m: Maker) -> MadeRule
     ensures { MakesRule rule_tree result at_or }
 {
     let vars = m.pred_var(
@@ -76,7 +93,7 @@ pub fn at_or(m: Maker) -> MadeRule
 }
 
 /// `(~p @ f) = ~(p @ f)`
-pub fn at_not(m: Maker) -> MadeRule
+fn at_not(m: Maker) -> MadeRule
     ensures { MakesRule rule_tree result at_not }
 {
     let vars = m.pred_var(
@@ -91,7 +108,7 @@ pub fn at_not(m: Maker) -> MadeRule
 }
 
 /// `(KP(true) @ f) = KP(true)`
-pub fn at_true(m: Maker) -> MadeRule
+fn at_true(m: Maker) -> MadeRule
     ensures { MakesRule rule_tree result at_true }
 {
     let vars = m.fun_var("f", m.ty("a"), m.ty("b"), m.no_vars());
@@ -102,7 +119,7 @@ pub fn at_true(m: Maker) -> MadeRule
 }
 
 /// `(KP(false) @ f) = KP(false)`
-pub fn at_false(m: Maker) -> MadeRule
+fn at_false(m: Maker) -> MadeRule
     ensures { MakesRule rule_tree result at_false }
 {
     let vars = m.fun_var("f", m.ty("a"), m.ty("b"), m.no_vars());

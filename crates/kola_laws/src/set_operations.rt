@@ -1,13 +1,29 @@
 //! The laws of union, intersection and difference.
 
+ghost use Rattle.std.specs.Prelude.{◌≡◌, ◌++◌, map, OnOk};
 ghost use Rattle.kola_rule.specs.RuleViews.{rule_tree};
-ghost use Rattle.kola_laws.specs.SetOperations.{iterate_union, iterate_or, iterate_and_not, iterate_and, union_same, union_comm};
+ghost use Rattle.kola_laws.specs.SetOperations.{set_operations, iterate_union, iterate_or, iterate_and_not, iterate_and, union_same, union_comm};
 ghost use Rattle.kola_laws.specs.Making.{MakesRule};
 
-use crate::maker::{MadeRule, Maker};
+use crate::maker::{MadeRule, Maker, add};
+use kola_core::Memory;
+use kola_rule::Rule;
+
+/// Adds these laws at the end of rules.
+pub fn set_operations(m: Maker, rules: &mut Vec<Rule>) -> Result<(), Memory>
+    ensures { OnOk result (map rule_tree rules.new.items ≡ map rule_tree rules.old.items ++ set_operations) }
+{
+    add(rules, iterate_union(m))?;
+    add(rules, iterate_or(m))?;
+    add(rules, iterate_and_not(m))?;
+    add(rules, iterate_and(m))?;
+    add(rules, union_same(m))?;
+    add(rules, union_comm(m))?;
+    Ok(())
+}
 
 /// `(iterate(p, f) o union) = (union o (iterate(p, f) * iterate(p, f)))`
-pub fn iterate_union(m: Maker) -> MadeRule
+fn iterate_union(m: Maker) -> MadeRule
     ensures { MakesRule rule_tree result iterate_union }
 {
     let vars = m.pred_var(
@@ -28,7 +44,7 @@ pub fn iterate_union(m: Maker) -> MadeRule
 }
 
 /// `iterate((p | q), f) = (union o <iterate(p, f), iterate(q, f)>)`
-pub fn iterate_or(m: Maker) -> MadeRule
+fn iterate_or(m: Maker) -> MadeRule
     ensures { MakesRule rule_tree result iterate_or }
 {
     let vars = m.pred_var(
@@ -53,7 +69,7 @@ pub fn iterate_or(m: Maker) -> MadeRule
 }
 
 /// `iterate((p & ~q), id) = (minus o <iterate(p, id), iterate(q, id)>)`
-pub fn iterate_and_not(m: Maker) -> MadeRule
+fn iterate_and_not(m: Maker) -> MadeRule
     ensures { MakesRule rule_tree result iterate_and_not }
 {
     let vars = m.pred_var("p", m.ty("a"), m.pred_var("q", m.ty("a"), m.no_vars()));
@@ -70,7 +86,7 @@ pub fn iterate_and_not(m: Maker) -> MadeRule
 }
 
 /// `iterate((p & q), id) = (isect o <iterate(p, id), iterate(q, id)>)`
-pub fn iterate_and(m: Maker) -> MadeRule
+fn iterate_and(m: Maker) -> MadeRule
     ensures { MakesRule rule_tree result iterate_and }
 {
     let vars = m.pred_var("p", m.ty("a"), m.pred_var("q", m.ty("a"), m.no_vars()));
@@ -87,7 +103,7 @@ pub fn iterate_and(m: Maker) -> MadeRule
 }
 
 /// `(union o <f, f>) = f`
-pub fn union_same(m: Maker) -> MadeRule
+fn union_same(m: Maker) -> MadeRule
     ensures { MakesRule rule_tree result union_same }
 {
     let vars = m.fun_var("f", m.ty("a"), m.set(m.ty("b")), m.no_vars());
@@ -98,7 +114,7 @@ pub fn union_same(m: Maker) -> MadeRule
 }
 
 /// `(union o <snd, fst>) = union`
-pub fn union_comm(m: Maker) -> MadeRule
+fn union_comm(m: Maker) -> MadeRule
     ensures { MakesRule rule_tree result union_comm }
 {
     let vars = m.no_vars();

@@ -1,13 +1,37 @@
 //! The laws of truth.
 
+ghost use Rattle.std.specs.Prelude.{◌≡◌, ◌++◌, map, OnOk};
 ghost use Rattle.kola_rule.specs.RuleViews.{rule_tree};
-ghost use Rattle.kola_laws.specs.Truth.{and_true, and_false, or_true, or_false, and_same, and_comm, or_comm, and_assoc, or_assoc, not_not, not_true, not_and, not_or, and_or};
+ghost use Rattle.kola_laws.specs.Truth.{truth, and_true, and_false, or_true, or_false, and_same, and_comm, or_comm, and_assoc, or_assoc, not_not, not_true, not_and, not_or, and_or};
 ghost use Rattle.kola_laws.specs.Making.{MakesRule};
 
-use crate::maker::{MadeRule, Maker};
+use crate::maker::{MadeRule, Maker, add};
+use kola_core::Memory;
+use kola_rule::Rule;
+
+/// Adds these laws at the end of rules.
+pub fn truth(m: Maker, rules: &mut Vec<Rule>) -> Result<(), Memory>
+    ensures { OnOk result (map rule_tree rules.new.items ≡ map rule_tree rules.old.items ++ truth) }
+{
+    add(rules, and_true(m))?;
+    add(rules, and_false(m))?;
+    add(rules, or_true(m))?;
+    add(rules, or_false(m))?;
+    add(rules, and_same(m))?;
+    add(rules, and_comm(m))?;
+    add(rules, or_comm(m))?;
+    add(rules, and_assoc(m))?;
+    add(rules, or_assoc(m))?;
+    add(rules, not_not(m))?;
+    add(rules, not_true(m))?;
+    add(rules, not_and(m))?;
+    add(rules, not_or(m))?;
+    add(rules, and_or(m))?;
+    Ok(())
+}
 
 /// `(p & KP(true)) = p`
-pub fn and_true(m: Maker) -> MadeRule
+fn and_true(m: Maker) -> MadeRule
     ensures { MakesRule rule_tree result and_true }
 {
     let vars = m.pred_var("p", m.ty("a"), m.no_vars());
@@ -18,7 +42,7 @@ pub fn and_true(m: Maker) -> MadeRule
 }
 
 /// `(p & KP(false)) = KP(false)`
-pub fn and_false(m: Maker) -> MadeRule
+fn and_false(m: Maker) -> MadeRule
     ensures { MakesRule rule_tree result and_false }
 {
     let vars = m.pred_var("p", m.ty("a"), m.no_vars());
@@ -29,7 +53,7 @@ pub fn and_false(m: Maker) -> MadeRule
 }
 
 /// `(p | KP(true)) = KP(true)`
-pub fn or_true(m: Maker) -> MadeRule
+fn or_true(m: Maker) -> MadeRule
     ensures { MakesRule rule_tree result or_true }
 {
     let vars = m.pred_var("p", m.ty("a"), m.no_vars());
@@ -40,7 +64,7 @@ pub fn or_true(m: Maker) -> MadeRule
 }
 
 /// `(p | KP(false)) = p`
-pub fn or_false(m: Maker) -> MadeRule
+fn or_false(m: Maker) -> MadeRule
     ensures { MakesRule rule_tree result or_false }
 {
     let vars = m.pred_var("p", m.ty("a"), m.no_vars());
@@ -51,7 +75,7 @@ pub fn or_false(m: Maker) -> MadeRule
 }
 
 /// `(p & p) = p`
-pub fn and_same(m: Maker) -> MadeRule
+fn and_same(m: Maker) -> MadeRule
     ensures { MakesRule rule_tree result and_same }
 {
     let vars = m.pred_var("p", m.ty("a"), m.no_vars());
@@ -62,7 +86,7 @@ pub fn and_same(m: Maker) -> MadeRule
 }
 
 /// `(p & q) = (q & p)`
-pub fn and_comm(m: Maker) -> MadeRule
+fn and_comm(m: Maker) -> MadeRule
     ensures { MakesRule rule_tree result and_comm }
 {
     let vars = m.pred_var("p", m.ty("a"), m.pred_var("q", m.ty("a"), m.no_vars()));
@@ -73,7 +97,7 @@ pub fn and_comm(m: Maker) -> MadeRule
 }
 
 /// `(p | q) = (q | p)`
-pub fn or_comm(m: Maker) -> MadeRule
+fn or_comm(m: Maker) -> MadeRule
     ensures { MakesRule rule_tree result or_comm }
 {
     let vars = m.pred_var("p", m.ty("a"), m.pred_var("q", m.ty("a"), m.no_vars()));
@@ -84,7 +108,7 @@ pub fn or_comm(m: Maker) -> MadeRule
 }
 
 /// `((p & q) & r) = (p & (q & r))`
-pub fn and_assoc(m: Maker) -> MadeRule
+fn and_assoc(m: Maker) -> MadeRule
     ensures { MakesRule rule_tree result and_assoc }
 {
     let vars = m.pred_var(
@@ -99,7 +123,7 @@ pub fn and_assoc(m: Maker) -> MadeRule
 }
 
 /// `((p | q) | r) = (p | (q | r))`
-pub fn or_assoc(m: Maker) -> MadeRule
+fn or_assoc(m: Maker) -> MadeRule
     ensures { MakesRule rule_tree result or_assoc }
 {
     let vars = m.pred_var(
@@ -114,7 +138,7 @@ pub fn or_assoc(m: Maker) -> MadeRule
 }
 
 /// `~~p = p`
-pub fn not_not(m: Maker) -> MadeRule
+fn not_not(m: Maker) -> MadeRule
     ensures { MakesRule rule_tree result not_not }
 {
     let vars = m.pred_var("p", m.ty("a"), m.no_vars());
@@ -125,7 +149,7 @@ pub fn not_not(m: Maker) -> MadeRule
 }
 
 /// `~KP(true) = KP(false)`
-pub fn not_true(m: Maker) -> MadeRule
+fn not_true(m: Maker) -> MadeRule
     ensures { MakesRule rule_tree result not_true }
 {
     let vars = m.no_vars();
@@ -136,7 +160,7 @@ pub fn not_true(m: Maker) -> MadeRule
 }
 
 /// `~(p & q) = (~p | ~q)`
-pub fn not_and(m: Maker) -> MadeRule
+fn not_and(m: Maker) -> MadeRule
     ensures { MakesRule rule_tree result not_and }
 {
     let vars = m.pred_var("p", m.ty("a"), m.pred_var("q", m.ty("a"), m.no_vars()));
@@ -147,7 +171,7 @@ pub fn not_and(m: Maker) -> MadeRule
 }
 
 /// `~(p | q) = (~p & ~q)`
-pub fn not_or(m: Maker) -> MadeRule
+fn not_or(m: Maker) -> MadeRule
     ensures { MakesRule rule_tree result not_or }
 {
     let vars = m.pred_var("p", m.ty("a"), m.pred_var("q", m.ty("a"), m.no_vars()));
@@ -158,7 +182,7 @@ pub fn not_or(m: Maker) -> MadeRule
 }
 
 /// `((p | q) & r) = ((p & r) | (q & r))`
-pub fn and_or(m: Maker) -> MadeRule
+fn and_or(m: Maker) -> MadeRule
     ensures { MakesRule rule_tree result and_or }
 {
     let vars = m.pred_var(

@@ -11,3 +11,4 @@ mod QuantifiersHold
 mod SetOperationsHold
 mod InjectivityHold
 pub mod EveryLaw
+mod Names

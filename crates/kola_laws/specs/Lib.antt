@@ -11,3 +11,4 @@ pub mod Quantifiers
 pub mod SetOperations
 pub mod Injectivity
 pub mod Laws
+pub mod Making

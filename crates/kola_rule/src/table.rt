@@ -1,9 +1,10 @@
 //! Tables of rules, each found by its name.
 
-ghost use Rattle.std.specs.Prelude.{◌≡◌, [], ◌∷◌, ◌++◌, false, length, position, slice_get, OnOk, OnErr, IfErr};
+ghost use Rattle.std.specs.Prelude.{◌≡◌, [], ◌∷◌, ◌++◌, false, length, position, slice_get, true, IfOk, OnOk, OnErr, IfErr};
 ghost use Rattle.std.specs.Option.{option_copied};
 ghost use Rattle.std.specs.Str.{bytes_eq};
 ghost use Rattle.kola_core.specs.NameLists.{is_listed};
+ghost use Rattle.kola_schema.specs.Schemas.{are_distinct};
 ghost use Rattle.kola_rule.specs.Rules.{RuleTree};
 ghost use Rattle.kola_rule.specs.RuleViews.{rule_tree, rule_at};
 ghost use Rattle.kola_rule.specs.Tables.{rule_names};
@@ -30,15 +31,37 @@ impl Model for RuleTable {
 
     ghost coded = { coded_list rule.the_row.coded };
 
-    ghost use Rattle.std.specs.Prelude.{◌≡◌};
+    ghost use Rattle.std.specs.Prelude.{◌≡◌, true};
+    ghost use Rattle.kola_schema.specs.Schemas.{are_distinct};
     ghost use Rattle.kola_rule.specs.Tables.{rule_names};
 
     ghost view = { λ a. a.rules.items };
 
-    ghost invariant = { λ a. a.names ≡ rule_names a.rules.items };
+    ghost invariant = { λ a. (a.names ≡ rule_names a.rules.items) × (are_distinct (rule_names a.rules.items) ≡ true) };
+}
+
+/// The names of rules, in their order.
+fn names_of(alloc: Global, rules: &[Rule]) -> Result<NameTable, Memory>
+    requires { are_distinct (rule_names rules.now) ≡ true }
+    ensures { IfOk result (λ t. t ≡ rule_names rules.now) }
+{
+    let mut names = NameTable::new(alloc);
+    for rule in rules {
+        names.add(rule.name.as_text())?;
+    }
+    Ok(names)
 }
 
 impl RuleTable {
+    /// The table of these rules, in their order. No two may have one name.
+    pub fn from_rules(alloc: Global, rules: Vec<Rule>) -> Result<RuleTable, Memory>
+        requires { are_distinct (rule_names rules.items) ≡ true }
+        ensures { IfOk result (λ t. t ≡ rules.items) }
+    {
+        let names = names_of(alloc, rules.as_slice())?;
+        Ok(RuleTable { rules, names })
+    }
+
     /// The table of no rule.
     pub fn new(alloc: Global) -> RuleTable
         ensures { result ≡ [] }
@@ -47,6 +70,13 @@ impl RuleTable {
             rules: Vec::new(alloc),
             names: NameTable::new(alloc),
         }
+    }
+
+    /// What every table keeps: no two of its rules have one name. It does nothing else.
+    pub fn well_formed(&self)
+        ensures { are_distinct (rule_names self.now) ≡ true }
+    {
+        let _rules = &self.rules;
     }
 
     /// The number of rules.

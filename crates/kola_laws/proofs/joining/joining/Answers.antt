@@ -1,0 +1,16 @@
+use Rattle.std.proofs.Common.{map, sym}
+use Rattle.std.proofs.lemmas.List.{append-nil}
+use Rattle.kola_rule.specs.RuleViews.{rule_tree}
+use Rattle.kola_laws.proofs.joining.joining.Goals as goal
+
+pub returns : goal.returns
+returns c =
+    let before = map rule_tree c.args.rules.now.items in
+    let e1 = c.in_ok-add.ensures before _ _ c.join_def.ensures (sym (append-nil before)) in
+    let e2 = c.in_ok-add-2.ensures before _ _ c.join_comm.ensures e1 in
+    let e3 = c.in_ok-add-3.ensures before _ _ c.join_left.ensures e2 in
+    let e4 = c.in_ok-add-4.ensures before _ _ c.join_right.ensures e3 in
+    let e5 = c.in_ok-add-5.ensures before _ _ c.join_select_left.ensures e4 in
+    let e6 = c.in_ok-add-6.ensures before _ _ c.join_select_right.ensures e5 in
+    let e7 = c.in_ok-add-7.ensures before _ _ c.iterate_join.ensures e6 in
+    c.in_ok-add-8.ensures before _ _ c.join_isect.ensures e7

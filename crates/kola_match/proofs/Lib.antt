@@ -6,3 +6,4 @@ pub mod NodeLaws
 pub mod PairLaws
 pub mod BindLaws
 pub mod FieldLaws
+pub mod InstanceLaws

@@ -5,3 +5,4 @@ pub mod Binds
 pub mod Pairs
 pub mod NodeViews
 pub mod FoundViews
+pub mod Instances

@@ -7,3 +7,4 @@ pub mod PairLaws
 pub mod BindLaws
 pub mod FieldLaws
 pub mod InstanceLaws
+pub mod LeadingLaws

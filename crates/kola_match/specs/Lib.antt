@@ -5,4 +5,5 @@ pub mod Binds
 pub mod Pairs
 pub mod NodeViews
 pub mod FoundViews
+pub mod Leading
 pub mod Instances

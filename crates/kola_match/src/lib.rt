@@ -2,6 +2,7 @@
 #![tactic(auto)]
 
 mod facts;
+mod find;
 mod found;
 mod matching;
 mod nodes;

@@ -1,5 +1,5 @@
 -- The fields of two struct types, taken one by one.
-use Rattle.std.proofs.Common.{◌≡◌, ◌↔◌, ℕ, ◌+◌, ◌<◌, ◌≤◌, Bool, true, false, refl, sym, ap, ◌∙◌, subst, List, [], ◌∷◌, length, drop, map, get_or, arith}
+use Rattle.std.proofs.Common.{◌≡◌, ◌↔◌, ℕ, ◌+◌, ◌<◌, ◌≤◌, Bool, true, false, refl, sym, ap, ◌∙◌, subst, List, [], ◌∷◌, length, drop, map, get_or, Option, Some, arith}
 use Rattle.std.specs.Str.{bytes_eq}
 use Rattle.std.proofs.lemmas.List.{drop_all}
 use Rattle.kola_core.specs.declared.name.Name.{Name}
@@ -7,7 +7,7 @@ use Rattle.kola_core.proofs.Lists.{left_less, length_seen}
 use Rattle.kola_values.specs.Types.{TypeTree, TSet, TPair, TStruct, TField, of_type_fields}
 use Rattle.kola_values.specs.Views.{type_tree, type_entry}
 use Rattle.kola_values.specs.declared.ty.Ty.{Ty}
-use Rattle.kola_term.proofs.Inversions.{same_name-equal}
+use Rattle.kola_term.proofs.Inversions.{some_same, same_name-equal}
 use Rattle.kola_term.proofs.Introductions.{same_name_itself}
 use Rattle.kola_match.specs.Substitutions.{Substitution, sub_type, sub_types}
 use Rattle.kola_match.specs.Binds.{Binds, Extends, Finds, FieldsGive}
@@ -85,3 +85,7 @@ module _ (p t : TypeTree) (s : Substitution) where
     λ h. ap (sub_type s.types) e ∙ (ap TStruct h ∙ sym f),
     λ h. let k : TStruct (sub_types s.types (of_type_fields us)) ≡ TStruct (of_type_fields vs) = sym (ap (sub_type s.types) e) ∙ (h ∙ f) in cc,
   )
+
+-- a type that is known, against what is demanded of it
+pub known_demand : (o : Option TypeTree) (a u : TypeTree) (s : Substitution) → o ≡ Some u → ((sub_type s.types a ≡ u) ↔ (o ≡ Some (sub_type s.types a)))
+known_demand o a u s e = (λ h. e ∙ ap Some (sym h), λ h. some_same (sub_type s.types a) u (sym h ∙ e))

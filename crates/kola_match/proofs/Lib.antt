@@ -8,3 +8,4 @@ pub mod BindLaws
 pub mod FieldLaws
 pub mod InstanceLaws
 pub mod LeadingLaws
+pub mod DemandLaws

@@ -6,4 +6,5 @@ pub mod Pairs
 pub mod NodeViews
 pub mod FoundViews
 pub mod Leading
+pub mod Demanding
 pub mod Instances

@@ -2,6 +2,7 @@
 #![tactic(auto)]
 
 mod facts;
+mod demand;
 mod find;
 mod found;
 mod matching;

@@ -9,3 +9,4 @@ pub mod FieldLaws
 pub mod InstanceLaws
 pub mod LeadingLaws
 pub mod DemandLaws
+pub mod SpottingLaws

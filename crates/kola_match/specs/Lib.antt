@@ -7,4 +7,5 @@ pub mod NodeViews
 pub mod FoundViews
 pub mod Leading
 pub mod Demanding
+pub mod Spotting
 pub mod Instances

@@ -2,6 +2,7 @@
 #![tactic(auto)]
 
 mod facts;
+mod declared;
 mod demand;
 mod find;
 mod found;

@@ -58,14 +58,14 @@ module _ (S : Classes) (k : AttributesClosed S) (x vars : Context) (input T : Ty
       let here : sub_at t q ≡ Some (TermC (s.consts n)) = subst (λ z. sub_at z q ≡ Some (TermC (s.consts n))) g (sub_inst s q L (TermC (CMeta n)) e) in
       λ j. subst (λ z. Demands S x (MConst a) z (place S x t T q) s) here j
 
-  all_meet : (sides : Sides) (vs : Context) (es : Spots) → AllFound S x vars input T sides vs es → AllGive s sides → IsTyped S x s vars → sub_type s.types input ≡ T → IsTyped S x s vs → AllDemand S x T es s
+  pub all_meet : (sides : Sides) (vs : Context) (es : Spots) → AllFound S x vars input T sides vs es → AllGive s sides → IsTyped S x s vars → sub_type s.types input ≡ T → IsTyped S x s vs → AllDemand S x T es s
   all_meet sides [] [] a g i u j = tt
   all_meet sides (v ∷ vs) (e ∷ es) a g i u j =
       (meets_demand e.0.0 e.0.1 e.1.0 e.1.1 e.1.2 a.1.0 a.1.2 a.1.3 i (subst (λ (z : List ℕ × MetaTree). HasMetaType S x s z.0 z.1) (sym a.0) j.0) u (a.1.4 s g), all_meet sides vs es a.2 g i u j.1)
   all_meet sides [] (e ∷ es) a g i u j = absurd a
   all_meet sides (v ∷ vs) [] a g i u j = absurd a
 
-  all_typed : (sides : Sides) (vs : Context) (es : Spots) → AllFound S x vars input T sides vs es → AllGive s sides → AllDemand S x T es s → IsTyped S x s vs
+  pub all_typed : (sides : Sides) (vs : Context) (es : Spots) → AllFound S x vars input T sides vs es → AllGive s sides → AllDemand S x T es s → IsTyped S x s vs
   all_typed sides [] [] a g j = tt
   all_typed sides (v ∷ vs) (e ∷ es) a g j =
       (subst (λ (z : List ℕ × MetaTree). HasMetaType S x s z.0 z.1) a.0 (typed_by e.0.0 e.0.1 e.1.0 e.1.1 e.1.2 a.1.1 a.1.3 (a.1.4 s g) j.0), all_typed sides vs es a.2 g j.1)

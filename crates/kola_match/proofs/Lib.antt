@@ -10,3 +10,4 @@ pub mod InstanceLaws
 pub mod LeadingLaws
 pub mod DemandLaws
 pub mod SpottingLaws
+pub mod MatchedLaws

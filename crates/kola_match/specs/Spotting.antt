@@ -50,6 +50,11 @@ abbrev pub AllTyped : Classes → Context → TypeTree → Sides → Type 0
 AllTyped S x T [] = Unit {0}
 AllTyped S x T (a ∷ sides) = Typed S x a.1 T × AllTyped S x T sides
 
+-- each side is typed, with the rule's variables
+abbrev pub AllPatternsTyped : Classes → Context → TypeTree → Sides → Type 0
+AllPatternsTyped S vars input [] = Unit {0}
+AllPatternsTyped S vars input (a ∷ sides) = Typed S vars a.0 input × AllPatternsTyped S vars input sides
+
 -- what was found of one variable at a spot
 abbrev pub FindsOne : Classes → Context → TypeTree → Sides → List ℕ × MetaTree → Bool → Binds → Binds → Type 0
 FindsOne S x T sides v b old new = (e : Spot) × IsSpot sides v e × Finds b old new (DemandAt S x T (v, e))

@@ -6,6 +6,7 @@ mod declared;
 mod demand;
 mod find;
 mod found;
+mod matched;
 mod matching;
 mod nodes;
 mod pairs;

@@ -1,2 +1,4 @@
 pub mod Substitutions
 pub mod Holding
+pub mod Occurring
+pub mod RuleOk

@@ -1,5 +1,5 @@
 -- Rules that do not hold.
-use Rattle.std.specs.Prelude.{◌≡◌, ℕ, true, false, List, [], ◌∷◌, Some, codes, refl}
+use Rattle.std.specs.Prelude.{◌≡◌, true, false, [], ◌∷◌, codes, refl}
 use Rattle.std.proofs.Common.{true≢false}
 use Rattle.kola_values.specs.Values.{VBool, VPair}
 use Rattle.kola_values.specs.Order.{same}

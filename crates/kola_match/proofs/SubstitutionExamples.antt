@@ -1,9 +1,9 @@
 -- Substitutions of samples.
 use Rattle.std.proofs.Common.{pos}
-use Rattle.std.specs.Prelude.{◌≡◌, ℕ, true, List, [], ◌∷◌, codes, refl}
-use Rattle.kola_values.specs.Types.{TInt, TStr, TBool, TClass, TVar, TSet, TPair, TStruct, TEnd, TField}
-use Rattle.kola_values.specs.Databases.{Class, Classes}
-use Rattle.kola_term.specs.Terms.{CInt, CExtent, CMeta, FId, FFst, FSnd, FAttr, FComp, FPair, FTimes, FK, FC, FIf, FIterate, FIter, FJoin, FNest, FUnnest, FMeta, PEq, PLt, PAt, PAnd, POr, PNot, PInv, PKP, PCP, PEx, PFa, PMeta, TermF, TermP, TermC}
+use Rattle.std.specs.Prelude.{◌≡◌, true, [], ◌∷◌, codes, refl}
+use Rattle.kola_values.specs.Types.{TInt, TStr, TClass, TVar, TSet, TPair, TStruct, TEnd, TField}
+use Rattle.kola_values.specs.Databases.{Classes}
+use Rattle.kola_term.specs.Terms.{CInt, CExtent, CMeta, FId, FFst, FSnd, FAttr, FComp, FPair, FK, FC, FIf, FIterate, FNest, FMeta, PEq, PLt, PAt, POr, PNot, PKP, PCP, PMeta, TermF, TermP, TermC}
 use Rattle.kola_term.specs.Typing.{MFun, MPred, MConst}
 use Rattle.kola_match.specs.Substitutions.{Substitution, sub_type, inst, IsTyped}
 

@@ -2,12 +2,12 @@
 use Rattle.std.specs.Prelude.{◌≡◌, ◌⊎◌, ℕ, Bool, true, ◌&&◌, List, Option, Some}
 use Rattle.std.specs.List.{list_all}
 use Rattle.kola_core.specs.NameLists.{is_listed}
-use Rattle.kola_values.specs.Types.{TypeTree, TClass, TSet, TPair, TStruct, FieldTypes, TEnd, TField}
+use Rattle.kola_values.specs.Types.{TypeTree, TBool, TClass, TSet, TPair, TStruct, FieldTypes, TEnd, TField}
 use Rattle.kola_values.specs.Databases.{Classes, look_up}
 use Rattle.kola_values.specs.Sets.{Each}
 use Rattle.kola_schema.specs.Schemas.{are_distinct, names_of, class_names}
 use Rattle.kola_term.specs.Terms.{TermTree, TermF, TermP}
-use Rattle.kola_term.specs.Typing.{MetaTree, MFun, MPred, MConst}
+use Rattle.kola_term.specs.Typing.{Context, MetaTree, MFun, MPred, MConst}
 use Rattle.kola_term.specs.Faults.{Fits}
 use Rattle.kola_rule.specs.Rules.{RuleTree}
 use Rattle.kola_match.specs.Occurring.{Occurs}
@@ -36,19 +36,17 @@ abbrev pub IsFunction : Option MetaTree → Type 0
 IsFunction (Some (MFun t u)) = Unit {0}
 IsFunction _ = ⊥
 
--- two functions, or two predicates
-abbrev pub BothSides : TermTree → TermTree → Type 0
-BothSides (TermF f) (TermF g) = Unit {0}
-BothSides (TermP p) (TermP q) = Unit {0}
-BothSides _ _ = ⊥
+-- two functions that fit at the type, with one output type, or two predicates that fit there
+abbrev pub SidesFit : Classes → Context → TypeTree → TermTree → TermTree → Type 0
+SidesFit S x T (TermF f) (TermF g) = (u : TypeTree) × Fits S x (TermF f) T u × Fits S x (TermF g) T u
+SidesFit S x T (TermP p) (TermP q) = Fits S x (TermP p) T TBool × Fits S x (TermP q) T TBool
+SidesFit S x T _ _ = ⊥
 
+-- the variables have distinct names, each stands on a side, the conditions name functions, every class is of the schema, and the sides fit
 pub record RuleOk (S : Classes) (r : RuleTree) : Type 0 where
   pub distinct : are_distinct (names_of r.vars) ≡ true
   pub occur : Each (λ (v : List ℕ × MetaTree). Occurs r.left v ⊎ Occurs r.right v) r.vars
   pub conditions : Each (λ n. IsFunction (look_up n r.vars)) r.when
   pub known : list_all (λ (v : List ℕ × MetaTree). knows_meta (class_names S) v.1) r.vars ≡ true
   pub input_known : knows_type (class_names S) r.input ≡ true
-  pub sides : BothSides r.left r.right
-  pub out : TypeTree
-  pub left : Fits S r.vars r.left r.input out
-  pub right : Fits S r.vars r.right r.input out
+  pub sides : SidesFit S r.vars r.input r.left r.right

@@ -12,3 +12,5 @@ mod SetOperationsHold
 mod InjectivityHold
 pub mod EveryLaw
 mod Names
+pub mod WellTyped
+mod LawExamples

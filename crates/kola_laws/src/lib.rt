@@ -16,5 +16,5 @@ mod set_operations;
 mod table;
 mod truth;
 
-pub use facts::every_law_holds;
+pub use facts::{every_law_holds, every_law_is_well_typed};
 pub use table::laws;

@@ -10,7 +10,8 @@ use Rattle.kola_term.proofs.Paths.{typed_at}
 use Rattle.kola_match.specs.Substitutions.{Substitution, sub_type, inst, IsTyped, HasMetaType}
 use Rattle.kola_match.specs.Pairs.{Sides, AllGive}
 use Rattle.kola_match.specs.Binds.{Binds, Extends, Finds, substitution_of}
-use Rattle.kola_match.specs.Instances.{Instance, Decided, variable, Demands, DemandAt, AllDemand, Spot, Spots, FoundAt, AllFound}
+use Rattle.kola_match.specs.Occurring.{variable}
+use Rattle.kola_match.specs.Instances.{Instance, Decided, Demands, DemandAt, AllDemand, Spot, Spots, FoundAt, AllFound}
 use Rattle.kola_match.proofs.Closed.{AttributesClosed}
 use Rattle.kola_match.proofs.Commute.{sub_inst, place_inst}
 use Rattle.kola_match.proofs.BindLaws.{found_extends}

@@ -2,6 +2,11 @@ pub mod Closed
 pub mod Instances
 pub mod KindOut
 pub mod Commute
+pub mod RuleTests
+pub mod Occurring
+mod SubstitutionExamples
+mod HoldingExamples
+pub mod RuleTested
 pub mod NodeLaws
 pub mod PairLaws
 pub mod BindLaws

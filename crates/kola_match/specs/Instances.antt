@@ -2,10 +2,11 @@
 use Rattle.std.specs.Prelude.{◌≡◌, ℕ, Bool, cond, List, [], ◌∷◌, Option, Some, None}
 use Rattle.kola_values.specs.Types.{TypeTree}
 use Rattle.kola_values.specs.Databases.{Classes, look_up}
-use Rattle.kola_term.specs.Terms.{FMeta, PMeta, CMeta, TermTree, TermF, TermP, TermC}
+use Rattle.kola_term.specs.Terms.{TermTree, TermF, TermP, TermC}
 use Rattle.kola_term.specs.Typing.{Context, MetaTree, MFun, MPred, MConst, out, const_type}
 use Rattle.kola_term.specs.Places.{sub_at, place, Typed}
 use Rattle.kola_rule.specs.Rules.{RuleTree}
+use Rattle.kola_match.specs.Occurring.{variable, Occurs}
 use Rattle.kola_match.specs.Substitutions.{Substitution, sub_type, inst, IsTyped}
 use Rattle.kola_match.specs.Binds.{Binds, Extends, substitution_of}
 use Rattle.kola_match.specs.Pairs.{Sides, AllGive}
@@ -29,15 +30,6 @@ Decided S x vars input T sides (Some b) = Instance S x vars input T sides (subst
 Decided S x vars input T sides None = (s : Substitution) → Instance S x vars input T sides s → ⊥
 
 -- ---- variables and where they stand
-
-abbrev pub variable : List ℕ → MetaTree → TermTree
-variable n (MFun t u) = TermF (FMeta n)
-variable n (MPred t) = TermP (PMeta n)
-variable n (MConst t) = TermC (CMeta n)
-
--- the variable stands somewhere in the term
-abbrev pub Occurs : TermTree → List ℕ × MetaTree → Type 0
-Occurs t v = (q : List ℕ) × (sub_at t q ≡ Some (variable v.0 v.1))
 
 abbrev pub AllOccur : TermTree → Context → Type 0
 AllOccur t [] = Unit {0}

@@ -1,5 +1,7 @@
 pub mod Substitutions
 pub mod Holding
+pub mod Occurring
+pub mod RuleOk
 pub mod Nodes
 pub mod Binds
 pub mod Pairs

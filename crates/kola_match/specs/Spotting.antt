@@ -8,7 +8,8 @@ use Rattle.kola_term.specs.Places.{sub_at, Typed}
 use Rattle.kola_term.specs.Parts.{sub_tree}
 use Rattle.kola_match.specs.Binds.{Binds, Finds}
 use Rattle.kola_match.specs.Pairs.{Sides}
-use Rattle.kola_match.specs.Instances.{variable, Occurs, Spot, Spots, DemandAt, AllDemand}
+use Rattle.kola_match.specs.Occurring.{variable, Occurs}
+use Rattle.kola_match.specs.Instances.{Spot, Spots, DemandAt, AllDemand}
 use Rattle.kola_match.specs.declared.declared.Side.{Side}
 
 abbrev pub side_of : Side → TermTree × TermTree

@@ -3,7 +3,7 @@
 ghost use Rattle.std.specs.Prelude.{◌≡◌, ◌↔◌, IfOk, true};
 ghost use Rattle.kola_term.specs.ContextView.{meta_tree};
 ghost use Rattle.kola_term.specs.Parts.{sub_tree};
-ghost use Rattle.kola_match.specs.Instances.{variable};
+ghost use Rattle.kola_match.specs.Occurring.{variable};
 ghost use Rattle.kola_match.specs.Leading.{Leads, LeadsBy};
 
 use kola_core::{Memory, Name};

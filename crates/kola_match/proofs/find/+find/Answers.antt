@@ -1,7 +1,7 @@
 use Rattle.std.proofs.Common.{◌≡◌, true, false, subst}
 use Rattle.kola_term.specs.ContextView.{meta_tree}
 use Rattle.kola_term.specs.Parts.{sub_tree}
-use Rattle.kola_match.specs.Instances.{variable}
+use Rattle.kola_match.specs.Occurring.{variable}
 use Rattle.kola_match.specs.Leading.{LeadsBy}
 use Rattle.kola_match.proofs.BindLaws.{if_ok}
 use Rattle.kola_match.proofs.LeadingLaws.{leaf_leads, one_leads, two_leads, three_leads}

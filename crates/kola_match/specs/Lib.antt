@@ -7,6 +7,7 @@ pub mod Binds
 pub mod Pairs
 pub mod NodeViews
 pub mod FoundViews
+pub mod SubstViews
 pub mod Leading
 pub mod Demanding
 pub mod Spotting

@@ -10,5 +10,6 @@ mod matched;
 mod matching;
 mod nodes;
 mod pairs;
+mod subst;
 
 pub use facts::{places_go_with_substitutions, typed_substitutions_keep_types};

@@ -1,6 +1,9 @@
 -- What a call answers that looks for a fault.
-use Rattle.std.specs.Prelude.{◌≡◌, ℕ, List, Some, None, Result, Ok, Err}
+use Rattle.std.specs.Prelude.{◌≡◌, ℕ, List, Option, Some, None, Result, Ok, Err, option_and_then}
+use Rattle.json.specs.Json.{value, if_last}
+use Rattle.json.specs.Token.{Token}
 use Rattle.serde_json.specs.Data.{Data}
+use Rattle.serde_json.specs.Read.{of_json, max_depth}
 use Rattle.kola_load.specs.Loaded.{Reads}
 use Rattle.kola_load.specs.Loading.{Test}
 use Rattle.kola_load.specs.declared.fault.DbFault.{DbFault}
@@ -18,3 +21,11 @@ Nothing x = Unit {0}
 -- the text reads as no JSON value; want of memory may come at any place
 abbrev pub IsOfText : List ℕ → DbFault → Type 0
 IsOfText text e = (e ≡ Memory → ⊥) → (e ≡ NotJson) × ((j : Data) → Reads text j → ⊥)
+
+-- the value that all tokens together read as
+abbrev pub read_of : List Token → Option Data
+read_of ts = option_and_then of_json (option_and_then (λ p. if_last p.0 p.1) (value max_depth ts))
+
+-- there is no value; want of memory may come at any place
+abbrev pub IsOfTokens : {A : Type 0} → Option A → DbFault → Type 0
+IsOfTokens found e = (e ≡ Memory → ⊥) → (e ≡ NotJson) × (found ≡ None)

@@ -1,5 +1,5 @@
 use Rattle.std.proofs.Common.{map, sym, subst, ap, ◌∙◌}
-use Rattle.serde_json.specs.View.{view}
+use Rattle.kola_load.specs.JsonViews.{view}
 use Rattle.kola_values.specs.Sets.{Each}
 use Rattle.kola_schema.specs.Meets.{Meets}
 use Rattle.kola_database.specs.MeetsTests.{IsHeld}

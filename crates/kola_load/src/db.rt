@@ -96,6 +96,7 @@ pub fn read_db(alloc: Global, schema: &Schema, text: &[u8]) -> Result<Db, DbFaul
     let mut scratch = Scratch::new(alloc);
     let value = read_json(alloc, text, &mut scratch)?;
     let objects = objects_of(alloc, schema, value)?;
+    drop(scratch);
     all_held(objects.as_slice());
     let db = Db::make(alloc, schema, objects)?;
     Ok(db)

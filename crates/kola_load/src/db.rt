@@ -23,14 +23,18 @@ use kola_database::{Db, ObjectDef};
 use kola_schema::Schema;
 use std::alloc::Global;
 
-// The lists one behind the other.
+// The lists one behind the other. The first is taken as it is.
 fn joined(alloc: Global, lists: Vec<Vec<ObjectDef>>) -> Result<Vec<ObjectDef>, Memory>
     ensures { IfOk result (λ v. map object_tree v.items ≡ flat_map (λ os. map object_tree os.items) lists.items) }
 {
     let mut all = Vec::new(alloc);
     for list in lists {
         let mut list = list;
-        all.append(&mut list)?;
+        if all.is_empty() {
+            all = list;
+        } else {
+            all.append(&mut list)?;
+        }
     }
     Ok(all)
 }

@@ -3,11 +3,10 @@ ghost use Rattle.std.specs.Prelude.{◌≡◌, map, flat_map, IfOk, IfErr};
 ghost use Rattle.kola_values.specs.Sets.{Each};
 ghost use Rattle.kola_database.specs.MeetsTests.{IsHeld};
 ghost use Rattle.kola_database.specs.ObjectViews.{object_tree};
-ghost use Rattle.kola_load.specs.Calls.{Finds};
+ghost use Rattle.kola_load.specs.Calls.{Finds, FindsLists, lists_tree};
 ghost use Rattle.kola_load.specs.JsonViews.{view, table_view};
+ghost use Rattle.kola_load.specs.KeyViews.{AreOfClasses, lists_fault};
 ghost use Rattle.kola_load.specs.Loaded.{IsLoaded, IsFirstFault};
-ghost use Rattle.kola_load.specs.Loading.{db_fault};
-ghost use Rattle.kola_load.specs.Written.{written};
 
 use crate::DbFault;
 use crate::document::read_json;
@@ -39,34 +38,47 @@ fn joined(alloc: Global, lists: Vec<Vec<ObjectDef>>) -> Result<Vec<ObjectDef>, M
     Ok(all)
 }
 
-// The objects that the members of an object write. The members go as their objects come.
-fn objects_in(
+// The objects of each class that the members of an object write. The members go as their objects come.
+fn lists_in(
     alloc: Global,
     schema: &Schema,
     members: Members<'_>,
-) -> Result<Vec<ObjectDef>, DbFault>
-    ensures { Finds (db_fault schema.now (table_view members.entry))
-        (λ v. map object_tree v.items ≡ written schema.now (table_view members.entry)) result }
+) -> Result<Vec<Vec<ObjectDef>>, DbFault>
+    ensures { FindsLists schema.now (table_view members.entry) result }
 {
     check_members(alloc, schema, &members)?;
     let ids = all_ids(alloc, schema, &members)?;
-    let lists = read_objects(alloc, schema, &ids, members)?;
-    drop(ids);
-    check_keys(alloc, schema, lists.as_slice())?;
-    let objects = joined(alloc, lists)?;
-    Ok(objects)
+    read_objects(alloc, schema, &ids, members)
 }
 
-// The objects that a value writes.
-fn objects_of(alloc: Global, schema: &Schema, value: Value<'_>) -> Result<Vec<ObjectDef>, DbFault>
-    ensures { Finds (db_fault schema.now (view value.entry))
-        (λ v. map object_tree v.items ≡ written schema.now (view value.entry)) result }
+// The objects of each class that a value writes. The value goes as they come.
+fn lists_of(
+    alloc: Global,
+    schema: &Schema,
+    value: Value<'_>,
+) -> Result<Vec<Vec<ObjectDef>>, DbFault>
+    ensures { FindsLists schema.now (view value.entry) result }
 {
     if !is_object(&value) {
         return Err(DbFault::NotObject);
     }
     let members = members_of(alloc, value)?;
-    objects_in(alloc, schema, members)
+    lists_in(alloc, schema, members)
+}
+
+// The objects of all classes, none of which agrees with an earlier one of its class on a key.
+fn objects_of(
+    alloc: Global,
+    schema: &Schema,
+    lists: Vec<Vec<ObjectDef>>,
+) -> Result<Vec<ObjectDef>, DbFault>
+    requires { AreOfClasses schema.now (lists_tree lists) }
+    ensures { Finds (lists_fault schema.now (lists_tree lists))
+        (λ v. map object_tree v.items ≡ flat_map (λ os. map object_tree os.items) lists.items) result }
+{
+    check_keys(alloc, schema, lists.as_slice())?;
+    let objects = joined(alloc, lists)?;
+    Ok(objects)
 }
 
 // What every object keeps.
@@ -99,8 +111,9 @@ pub fn read_db(alloc: Global, schema: &Schema, text: &[u8]) -> Result<Db, DbFaul
     schema.well_formed();
     let mut scratch = Scratch::new(alloc);
     let value = read_json(alloc, text, &mut scratch)?;
-    let objects = objects_of(alloc, schema, value)?;
+    let lists = lists_of(alloc, schema, value)?;
     drop(scratch);
+    let objects = objects_of(alloc, schema, lists)?;
     all_held(objects.as_slice());
     let db = Db::make(alloc, schema, objects)?;
     Ok(db)

@@ -13,10 +13,10 @@ use Rattle.kola_values.specs.Sets.{Rising, Each, any, has, canon}
 use Rattle.kola_values.specs.Databases.{Object, Classes, Objects, look_up, value_or_unit, extent_class, objects_of, attribute_of}
 use Rattle.kola_schema.specs.Meets.{NoneTwice, object_values, FitsClass}
 use Rattle.kola_database.specs.Stored.{extents_of, attributes_of, object_named, attribute_in}
-use Rattle.kola_schema.specs.Schemas.{extent_names, are_distinct, names_of}
+use Rattle.kola_schema.specs.Schemas.{class_names, extent_names, are_distinct, names_of}
 use Rattle.kola_values.specs.Views.{value_tree, value_entry}
 use Rattle.kola_database.specs.ObjectViews.{object_tree}
-use Rattle.kola_database.specs.ExtentViews.{extent_entry, extent_labels, filled, class_names}
+use Rattle.kola_database.specs.ExtentViews.{extent_entry, extent_labels, filled}
 use Rattle.kola_values.specs.declared.value.Value.{Value}
 use Rattle.kola_database.specs.declared.object.ObjectDef.{ObjectDef}
 use Rattle.kola_database.specs.declared.db.Extent.{Extent}

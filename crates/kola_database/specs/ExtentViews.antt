@@ -33,9 +33,6 @@ AreRanges os [] [] = Unit {0}
 AreRanges os (c ∷ cs) (r ∷ rs) = IsRange os c r × AreRanges os cs rs
 AreRanges os _ _ = ⊥
 
-abbrev pub class_names : Classes → List (List ℕ)
-class_names S = map (λ (k : Class). k.name) S
-
 pub record IsStored (os : List ObjectDef) (extents : List Extent) (ranges : List (ℕ × ℕ)) (names : List (List ℕ)) : Type 0 where
   pub rises : Rising (object_values (map object_tree os))
   pub sets : Each (λ (x : Extent). x.members ≡ canon (objects_of x.class (map object_tree os))) extents

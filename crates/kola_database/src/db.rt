@@ -6,11 +6,11 @@ ghost use Rattle.kola_values.specs.Order.{cmp};
 ghost use Rattle.kola_values.specs.Sets.{Rising, has};
 ghost use Rattle.kola_values.specs.Databases.{objects_of, look_up};
 ghost use Rattle.kola_schema.specs.Meets.{Meets, object_values};
-ghost use Rattle.kola_schema.specs.Schemas.{are_distinct, names_of};
+ghost use Rattle.kola_schema.specs.Schemas.{are_distinct, names_of, class_names};
 ghost use Rattle.kola_database.specs.Stored.{IsUnder, extent_in, extent_at, object_named, attribute_in, attribute_at};
 ghost use Rattle.kola_values.specs.Views.{value_at};
 ghost use Rattle.kola_database.specs.ObjectViews.{object_tree, object_at};
-ghost use Rattle.kola_database.specs.ExtentViews.{filled, IsRange, AreRanges, class_names};
+ghost use Rattle.kola_database.specs.ExtentViews.{filled, IsRange, AreRanges};
 
 use crate::ObjectDef;
 use kola_core::{Items, Memory, Name, NameTable, Names};

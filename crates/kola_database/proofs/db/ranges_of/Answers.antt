@@ -1,7 +1,8 @@
 use Rattle.std.proofs.Common.{◌+◌, ◌++◌, ◌∷◌, [], sym, ap, subst, take}
 use Rattle.kola_core.proofs.Lists.{taken_more}
 use Rattle.kola_values.specs.Databases.{Class}
-use Rattle.kola_database.specs.ExtentViews.{IsRange, AreRanges, class_names}
+use Rattle.kola_schema.specs.Schemas.{class_names}
+use Rattle.kola_database.specs.ExtentViews.{IsRange, AreRanges}
 use Rattle.kola_database.proofs.Runs.{one_range_more}
 use Rattle.kola_database.proofs.db.ranges_of.Goals as goal
 

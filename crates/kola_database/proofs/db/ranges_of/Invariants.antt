@@ -1,5 +1,6 @@
 use Rattle.std.proofs.Common.{take}
-use Rattle.kola_database.specs.ExtentViews.{AreRanges, class_names}
+use Rattle.kola_schema.specs.Schemas.{class_names}
+use Rattle.kola_database.specs.ExtentViews.{AreRanges}
 use Rattle.kola_database.proofs.db.ranges_of.Given as goal
 
 abbrev pub invariant-loop-class : goal.invariant-loop-class

@@ -1,14 +1,13 @@
 -- The data of JSON values as the program holds them, level by level, and of tables of members.
-use Rattle.std.proofs.Common.{◌≡◌, ℕ, true, List, [], ◌∷◌, Option, Some, None, option_map, option_copied, map, cond, Vec, BTreeMap, Global, Bor, Ordering, Less, Equal, Greater, is_eq, nat_cmp, refl, sym, ap, ◌∙◌}
+use Rattle.std.proofs.Common.{◌≡◌, ℕ, true, List, [], ◌∷◌, Option, Some, None, option_map, option_copied, cond, Vec, Global, Bor, Ordering, Less, Equal, Greater, is_eq, nat_cmp, refl, sym, ap, ◌∙◌}
 use Rattle.std.specs.BTreeMap.{insert_entry, is_at}
 use Rattle.std.specs.Cmp.Lexicographic.{slice_cmp}
 use Rattle.std.specs.Map.{lookup}
 use Rattle.std.specs.Ordering.{match_ordering}
 use Rattle.json.specs.Value as json
-use Rattle.json.specs.Json as spec
 use Rattle.json.specs.declared.value.Value.{Value, Array, Object}
 use Rattle.json.proofs.Trees.{view-Array, view-Object}
-use Rattle.serde_json.specs.Data.{Data, null, boolean, number, string, array, object, Items, no_items, item, Members, no_members, member, put}
+use Rattle.serde_json.specs.Data.{Data, null, boolean, number, string, array, object, item, member, put}
 use Rattle.serde_json.specs.Find.{get_member}
 use Rattle.kola_values.specs.Databases.{Class}
 use Rattle.kola_load.specs.Json.{is_object}

@@ -1,12 +1,11 @@
 -- The least of the names that pass a test is the first of them where the names rise, as those of an object's members do.
-use Rattle.std.proofs.Common.{◌≡◌, ℕ, Bool, true, false, cond, ◌||◌, List, [], ◌∷◌, map, filter, Option, Some, None, option_and_then, Bor, Global, nat_cmp, refl, sym, ap, subst, ◌∙◌, Less, Greater, Ordering}
+use Rattle.std.proofs.Common.{◌≡◌, ℕ, Bool, true, false, cond, List, [], ◌∷◌, map, filter, Option, Some, None, Bor, Global, nat_cmp, refl, sym, ap, subst, ◌∙◌, Less, Greater, Ordering}
 use Rattle.std.specs.Bool.{⊤}
 use Rattle.std.specs.List.{AllByRecursion}
 use Rattle.std.specs.List.Sorted.{IsStrictlySortedBy}
-use Rattle.std.specs.Option.{MatchOption, option_map_or, is_some}
+use Rattle.std.specs.Option.{MatchOption, option_map_or}
 use Rattle.std.specs.Ordering.{is_lt, ordering_reverse}
 use Rattle.std.specs.Cmp.Lexicographic.{slice_cmp}
-use Rattle.std.specs.Str.{bytes_eq}
 use Rattle.std.proofs.lemmas.Cmp.{nat_list_cmp_total}
 use Rattle.std.proofs.lemmas.Map.Keys.{sorted_head, sorted_tail}
 use Rattle.json.specs.declared.value.Value.{Value}

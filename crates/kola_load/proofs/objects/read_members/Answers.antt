@@ -1,8 +1,7 @@
-use Rattle.std.proofs.Common.{sym, ap, ◌∙◌, ◌≡◌, None, subst}
+use Rattle.std.proofs.Common.{sym, ap, ◌∙◌, ◌≡◌, None}
 use Rattle.std.specs.Option.{option_map, option_or}
 use Rattle.kola_load.specs.JsonViews.{table_view}
 use Rattle.kola_values.specs.Databases.{Class}
-use Rattle.kola_database.specs.ObjectViews.{object_tree}
 use Rattle.kola_load.specs.Ids.{there}
 use Rattle.kola_load.specs.Loading.{first_of, label_fault, attribute_fault}
 use Rattle.kola_load.specs.Written.{id_in, object_in}

@@ -1,4 +1,4 @@
-use Rattle.std.proofs.Common.{◌≡◌, ◌∙◌, true, List, Some, None, sym, ap, map, filter, take, drop, slice_get, option_map, subst}
+use Rattle.std.proofs.Common.{◌≡◌, ◌∙◌, true, Some, None, sym, ap, map, filter, take, drop, slice_get, option_map, subst}
 use Rattle.std.specs.Str.{bytes_eq}
 use Rattle.kola_values.specs.Databases.{Object}
 use Rattle.kola_values.specs.Sets.{Rising}

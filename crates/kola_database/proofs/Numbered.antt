@@ -89,16 +89,22 @@ named_holds P (x ∷ d) c i o h e = at (same (VObj c i) (VObj x.class x.id)) e (
         subst P k h.0
     at false e further = further e
 
--- the value of an attribute of a number
-pub attribute_numbered : (xs : List Extent) (d : Objects) (n i a : ℕ) (x : Extent) (l : List ℕ) (o : Object) → Some x ≡ slice_get xs n → Some l ≡ slice_get x.attributes a → Some o ≡ object_named x.class i d
-    → look_up l o.values ≡ attribute_at (record { objects = d; extents = map extent_entry xs; attributes = map extent_labels xs }) n i a
-attribute_numbered xs d n i a x l o p q s =
-    let db : Database = record { objects = d; extents = map extent_entry xs; attributes = map extent_labels xs } in
-    let classed : Some x.class ≡ class_at db n = ap (λ r. option_map (λ (e : List ℕ × List ℕ). e.1) (option_map extent_entry r)) p ∙ ap (option_map (λ (e : List ℕ × List ℕ). e.1)) (sym (slice_get-map extent_entry xs n)) in
-    let labelled : Some l ≡ label_at db n a = q ∙ ap (λ r. option_and_then (λ ls. slice_get ls a) (option_map extent_labels r)) p ∙ ap (option_and_then (λ ls. slice_get ls a)) (sym (slice_get-map extent_labels xs n)) in
-    ap (option_and_then (λ (y : Object). look_up l y.values)) s
-    ∙ ap (option_and_then (λ k. attribute_in d x.class i k)) labelled
-    ∙ ap (option_and_then (λ c. option_and_then (λ k. attribute_in d c i k) (label_at db n a))) classed
+-- the value of an attribute of a number, where the object is looked for among those of its class
+module _ (xs : List Extent) (d : Objects) (n i a : ℕ) (x : Extent) (l : List ℕ) (p : Some x ≡ slice_get xs n) (q : Some l ≡ slice_get x.attributes a) where
+  numbered : (r : Option Object) → r ≡ object_named x.class i d → option_and_then (λ (y : Object). look_up l y.values) r ≡ attribute_at (record { objects = d; extents = map extent_entry xs; attributes = map extent_labels xs }) n i a
+  numbered r s =
+      let db : Database = record { objects = d; extents = map extent_entry xs; attributes = map extent_labels xs } in
+      let classed : Some x.class ≡ class_at db n = ap (λ r. option_map (λ (e : List ℕ × List ℕ). e.1) (option_map extent_entry r)) p ∙ ap (option_map (λ (e : List ℕ × List ℕ). e.1)) (sym (slice_get-map extent_entry xs n)) in
+      let labelled : Some l ≡ label_at db n a = q ∙ ap (λ r. option_and_then (λ ls. slice_get ls a) (option_map extent_labels r)) p ∙ ap (option_and_then (λ ls. slice_get ls a)) (sym (slice_get-map extent_labels xs n)) in
+      ap (option_and_then (λ (y : Object). look_up l y.values)) s
+      ∙ ap (option_and_then (λ k. attribute_in d x.class i k)) labelled
+      ∙ ap (option_and_then (λ c. option_and_then (λ k. attribute_in d c i k) (label_at db n a))) classed
+
+  pub attribute_numbered : (o : Object) → Some o ≡ object_named x.class i d → look_up l o.values ≡ attribute_at (record { objects = d; extents = map extent_entry xs; attributes = map extent_labels xs }) n i a
+  attribute_numbered o s = numbered (Some o) s
+
+  pub none_numbered : None ≡ object_named x.class i d → None ≡ attribute_at (record { objects = d; extents = map extent_entry xs; attributes = map extent_labels xs }) n i a
+  none_numbered s = numbered None s
 
 -- ---- numbers as places in the schema
 

@@ -1,5 +1,5 @@
 -- A sorted list without repeats rises.
-use Rattle.std.proofs.Common.{◌≡◌, ℕ, zero, suc, ◌+◌, ◌<◌, length, get_or, true≢false, Bool, true, false, ◌||◌, List, [], ◌∷◌, map, sym, ◌∙◌, ap, refl, arith, add-one}
+use Rattle.std.proofs.Common.{◌≡◌, suc, true≢false, ◌||◌, List, [], ◌∷◌, map, sym, ◌∙◌, ap, refl, arith, add-one}
 use Rattle.std.specs.List.Sorted.{IsSortedBy}
 use Rattle.std.specs.declared.cmp.Ordering.TheVariants.{Less, Equal, Greater}
 use Rattle.std.specs.declared.cmp.Ordering.{Ordering}

@@ -1,5 +1,5 @@
 -- The entries that answer `Equal` in a list where the answers rise stand side by side.
-use Rattle.std.proofs.Common.{◌≡◌, ℕ, zero, suc, ◌+◌, ◌<◌, ◌≤◌, Bool, true, false, true≢false, cond, List, [], ◌∷◌, length, get_or, map, filter, take, drop, refl, sym, ap, ◌∙◌, subst, arith, add-one}
+use Rattle.std.proofs.Common.{◌≡◌, ℕ, zero, suc, ◌+◌, ◌<◌, ◌≤◌, Bool, true, false, true≢false, cond, ◌&&◌, List, [], ◌∷◌, ◌++◌, Some, None, slice_get, length, get_or, map, filter, take, drop, refl, sym, ap, ◌∙◌, subst, arith, add-one}
 use Rattle.std.specs.declared.cmp.Ordering.{Ordering}
 use Rattle.std.specs.declared.cmp.Ordering.TheVariants.{Less, Equal, Greater}
 use Rattle.std.specs.Ordering.{is_lt, is_eq, ordering_index, ordering_then, ordering_reverse, nat_cmp}
@@ -10,13 +10,16 @@ use Rattle.std.proofs.lemmas.Map.Text.{is_eq-slice_cmp}
 use Rattle.std.proofs.lemmas.List.{get_or-drop, length-drop}
 use Rattle.std.proofs.lemmas.List.Sorted.{searchable_from_sorted}
 use Rattle.kola_values.specs.Values.{VObj}
-use Rattle.kola_values.specs.Order.{cmp, name_cmp}
+use Rattle.kola_values.specs.Order.{cmp, name_cmp, same}
 use Rattle.kola_values.specs.Sets.{Rising}
 use Rattle.kola_values.specs.Databases.{Object, objects_of}
 use Rattle.kola_schema.specs.Meets.{object_values}
 use Rattle.kola_database.specs.ObjectViews.{object_tree}
 use Rattle.kola_database.specs.declared.object.ObjectDef.{ObjectDef}
-use Rattle.kola_database.proofs.Stored.{object_value, object_values_seen}
+use Rattle.kola_database.specs.ExtentViews.{IsRange, AreRanges}
+use Rattle.kola_database.specs.Stored.{object_named}
+use Rattle.kola_database.specs.declared.db.Extent.{Extent}
+use Rattle.kola_database.proofs.Stored.{object_value, object_values_seen, of_the_class}
 
 less_down : (o p : Ordering) → ordering_index o ≤ ordering_index p → is_lt p ≡ true → is_lt o ≡ true
 less_down Less p h e = refl
@@ -110,3 +113,39 @@ kept_objects c (o ∷ xs) = at (bytes_eq c o.class) (kept_objects c xs)
         ≡ map (λ (p : Object). VObj p.class p.id) (cond b (object_tree o ∷ filter (λ (p : Object). bytes_eq c p.class) (map object_tree xs)) (filter (λ (p : Object). bytes_eq c p.class) (map object_tree xs)))
     at true h = ap (λ l. object_value o ∷ l) h
     at false h = h
+
+-- an object of a class is found among the objects of the class
+pub named_kept : (c : List ℕ) (i : ℕ) (xs : List ObjectDef) → object_named c i (map object_tree (filter (λ (o : ObjectDef). bytes_eq c o.class) xs)) ≡ object_named c i (map object_tree xs)
+named_kept c i [] = refl
+named_kept c i (o ∷ xs) = at (bytes_eq c o.class) refl (named_kept c i xs)
+  where
+    at : (b : Bool) → bytes_eq c o.class ≡ b → object_named c i (map object_tree (filter (λ (p : ObjectDef). bytes_eq c p.class) xs)) ≡ object_named c i (map object_tree xs)
+        → object_named c i (map object_tree (cond b (o ∷ filter (λ (p : ObjectDef). bytes_eq c p.class) xs) (filter (λ (p : ObjectDef). bytes_eq c p.class) xs))) ≡ object_named c i (map object_tree (o ∷ xs))
+    at true e h = ap (cond (same (VObj c i) (VObj o.class o.id)) (Some (object_tree o))) h
+    at false e h =
+        let other = sym (of_the_class c i (object_tree o)) ∙ ap (λ b. b && same (VObj c i) (VObj o.class o.id)) e in
+        h ∙ sym (ap (λ b. cond b (Some (object_tree o)) (object_named c i (map object_tree xs))) other)
+
+-- ---- ranges
+
+module _ (os : List ObjectDef) where
+  pub one_range_more : (cs : List (List ℕ)) (rs : List (ℕ × ℕ)) (c : List ℕ) (r : ℕ × ℕ) → AreRanges os cs rs → IsRange os c r → AreRanges os (cs ++ c ∷ []) (rs ++ r ∷ [])
+  one_range_more [] [] c r h k = (k, tt)
+  one_range_more [] (s ∷ rs) c r h k = absurd h
+  one_range_more (d ∷ cs) [] c r h k = absurd h
+  one_range_more (d ∷ cs) (s ∷ rs) c r h k = (h.0, one_range_more cs rs c r h.1 k)
+
+  pub range_at : (xs : List Extent) (rs : List (ℕ × ℕ)) (n : ℕ) (x : Extent) (r : ℕ × ℕ) → AreRanges os (map (λ (y : Extent). y.class) xs) rs → Some x ≡ slice_get xs n → Some r ≡ slice_get rs n → IsRange os x.class r
+  range_at [] rs n x r h e f = cc
+  range_at (y ∷ xs) [] n x r h e f = absurd h
+  range_at (y ∷ xs) (s ∷ rs) zero x r h e f =
+      let one : y ≡ x = cc in
+      let two : s ≡ r = cc in
+      subst (λ t. IsRange os x.class t) two (subst (λ (z : Extent). IsRange os z.class s) one h.0)
+  range_at (y ∷ xs) (s ∷ rs) (suc n) x r h e f = range_at xs rs n x r h.1 e f
+
+  pub no_range : (xs : List Extent) (rs : List (ℕ × ℕ)) (n : ℕ) (x : Extent) → AreRanges os (map (λ (y : Extent). y.class) xs) rs → Some x ≡ slice_get xs n → None ≡ slice_get rs n → ⊥
+  no_range [] rs n x h e f = cc
+  no_range (y ∷ xs) [] n x h e f = h
+  no_range (y ∷ xs) (s ∷ rs) zero x h e f = cc
+  no_range (y ∷ xs) (s ∷ rs) (suc n) x h e f = no_range xs rs n x h.1 e f

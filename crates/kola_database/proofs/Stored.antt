@@ -13,7 +13,7 @@ use Rattle.kola_values.specs.Sets.{Rising, Each, any, has, canon}
 use Rattle.kola_values.specs.Databases.{Object, Classes, Objects, look_up, value_or_unit, extent_class, objects_of, attribute_of}
 use Rattle.kola_schema.specs.Meets.{NoneTwice, object_values, FitsClass}
 use Rattle.kola_database.specs.Stored.{extents_of, attributes_of, object_named, attribute_in}
-use Rattle.kola_schema.specs.Schemas.{extent_names, are_distinct, names_of}
+use Rattle.kola_schema.specs.Schemas.{class_names, extent_names, are_distinct, names_of}
 use Rattle.kola_values.specs.Views.{value_tree, value_entry}
 use Rattle.kola_database.specs.ObjectViews.{object_tree}
 use Rattle.kola_database.specs.ExtentViews.{extent_entry, extent_labels, filled}
@@ -62,7 +62,7 @@ abbrev class_of_value : ValueTree → List ℕ
 class_of_value (VObj c i) = c
 class_of_value v = []
 
-of_the_class : (c : List ℕ) (i : ℕ) (o : Object) → (bytes_eq c o.class && same (VObj c i) (VObj o.class o.id)) ≡ same (VObj c i) (VObj o.class o.id)
+pub of_the_class : (c : List ℕ) (i : ℕ) (o : Object) → (bytes_eq c o.class && same (VObj c i) (VObj o.class o.id)) ≡ same (VObj c i) (VObj o.class o.id)
 of_the_class c i o = at (same (VObj c i) (VObj o.class o.id)) refl
   where
     at : (b : Bool) → same (VObj c i) (VObj o.class o.id) ≡ b → (bytes_eq c o.class && b) ≡ b
@@ -169,6 +169,10 @@ filled_sets (k ∷ ks) d r = (sym (canon_rising (objects_of k.name d) (class_ris
 pub filled_names : (S : Classes) (d : Objects) → map (λ (x : Extent). x.name) (filled S d) ≡ extent_names S
 filled_names [] d = refl
 filled_names (k ∷ ks) d = ap (λ l. k.extent ∷ l) (filled_names ks d)
+
+pub filled_classes : (S : Classes) (d : Objects) → map (λ (x : Extent). x.class) (filled S d) ≡ class_names S
+filled_classes [] d = refl
+filled_classes (k ∷ ks) d = ap (λ l. k.name ∷ l) (filled_classes ks d)
 
 pub filled_entries : (S : Classes) (d : Objects) → map extent_entry (filled S d) ≡ extents_of S
 filled_entries [] d = refl

@@ -1,16 +1,16 @@
 //! Databases: objects that meet a schema, with each extent as a set.
-ghost use Rattle.std.specs.Prelude.{◌≡◌, true, map, slice_get, IfOk, OnSome, IsPermutation};
+ghost use Rattle.std.specs.Prelude.{◌≡◌, true, map, take, drop, slice_get, IfOk, OnSome, IsPermutation};
 ghost use Rattle.std.specs.Option.{option_map, option_copied};
 ghost use Rattle.kola_values.specs.Values.{VObj};
 ghost use Rattle.kola_values.specs.Order.{cmp};
 ghost use Rattle.kola_values.specs.Sets.{Rising, has};
 ghost use Rattle.kola_values.specs.Databases.{objects_of, look_up};
 ghost use Rattle.kola_schema.specs.Meets.{Meets, object_values};
-ghost use Rattle.kola_schema.specs.Schemas.{are_distinct, names_of};
+ghost use Rattle.kola_schema.specs.Schemas.{are_distinct, names_of, class_names};
 ghost use Rattle.kola_database.specs.Stored.{IsUnder, extent_in, extent_at, object_named, attribute_in, attribute_at};
 ghost use Rattle.kola_values.specs.Views.{value_at};
 ghost use Rattle.kola_database.specs.ObjectViews.{object_tree, object_at};
-ghost use Rattle.kola_database.specs.ExtentViews.{filled};
+ghost use Rattle.kola_database.specs.ExtentViews.{filled, IsRange, AreRanges};
 
 use crate::ObjectDef;
 use kola_core::{Items, Memory, Name, NameTable, Names};
@@ -42,15 +42,32 @@ pub struct Extent {
     members: Set,
 }
 
-// The objects of a class: in the order of values they stand side by side.
-fn run_of<'a>(objects: &'a [ObjectDef], class: &Name) -> &'a [ObjectDef]
+// Where the objects of a class stand, side by side in the order of values: the place of the first, and how many they are.
+fn range_of(objects: &[ObjectDef], class: &Name) -> (usize, usize)
     requires { Rising (object_values (map object_tree objects.now)) }
-    ensures { object_values (map object_tree result.now) ≡ objects_of class.now (map object_tree objects.now) }
+    ensures { IsRange objects.now class.now result }
 {
     let start = objects.partition_point(|object| object.class.cmp_bytes(class).is_lt());
     let from = &objects[start..];
     let count = from.partition_point(|object| class.is(&object.class));
-    &from[..count]
+    (start, count)
+}
+
+// The objects that stand in a range.
+fn objects_at(objects: &[ObjectDef], start: usize, count: usize) -> &[ObjectDef]
+    ensures { result.now ≡ take count (drop start objects.now) }
+{
+    let from = &objects[start.min(objects.len())..];
+    &from[..count.min(from.len())]
+}
+
+// The objects of a class.
+fn run_of<'a>(objects: &'a [ObjectDef], class: &Name) -> &'a [ObjectDef]
+    requires { Rising (object_values (map object_tree objects.now)) }
+    ensures { object_values (map object_tree result.now) ≡ objects_of class.now (map object_tree objects.now) }
+{
+    let (start, count) = range_of(objects, class);
+    objects_at(objects, start, count)
 }
 
 // The objects of a class as a set.
@@ -66,18 +83,20 @@ fn members_of(alloc: Global, class: &Name, objects: &[ObjectDef]) -> Result<Set,
     Set::from_rising(members)
 }
 
-// Where the objects of a class begin.
-fn start_of(objects: &[ObjectDef], class: &Name) -> usize {
-    objects.partition_point(|object| object.class.cmp_bytes(class).is_lt())
-}
-
-// Where the objects of each class begin, in the order of the schema.
-fn starts_of(alloc: Global, schema: &Schema, objects: &[ObjectDef]) -> Result<Vec<usize>, Memory> {
-    let mut starts = Vec::new(alloc);
+// Where the objects of each class stand, in the order of the schema.
+fn ranges_of(
+    alloc: Global,
+    schema: &Schema,
+    objects: &[ObjectDef],
+) -> Result<Vec<(usize, usize)>, Memory>
+    requires { Rising (object_values (map object_tree objects.now)) }
+    ensures { IfOk result (λ v. AreRanges objects.now (class_names schema.now) v.items) }
+{
+    let mut ranges = Vec::new(alloc);
     for class in schema.classes() {
-        starts.push(start_of(objects, &class.get().name))?;
+        ranges.push(range_of(objects, &class.get().name))?;
     }
-    Ok(starts)
+    Ok(ranges)
 }
 
 // The names of attributes, in their order.
@@ -128,6 +147,12 @@ fn extent_numbered(extents: &[Extent], n: usize) -> Option<&Extent>
     extents.get(n)
 }
 
+fn range_numbered(ranges: &[(usize, usize)], n: usize) -> Option<(usize, usize)>
+    ensures { result ≡ slice_get ranges.now n }
+{
+    ranges.get(n).copied()
+}
+
 fn members_at(extents: &[Extent], n: usize) -> Option<&Set>
     ensures { option_copied result ≡ option_map (λ x. x.members) (slice_get extents.now n) }
 {
@@ -166,18 +191,13 @@ fn object_there<'a>(
     }
 }
 
-// The object of a class and an id, where the objects of the class begin at a place. Where ids are dense it stands as far behind as its id
-// is above 1, and is looked for by halves where it does not.
-fn object_from<'a>(
-    objects: &'a [ObjectDef],
-    start: usize,
-    class: &Name,
-    id: u32,
-) -> Option<&'a ObjectDef>
+// The object of an id among the objects of a class. Where ids are dense it stands as far behind the first as its id is above 1, and is
+// looked for by halves where it does not.
+fn object_from<'a>(objects: &'a [ObjectDef], class: &Name, id: u32) -> Option<&'a ObjectDef>
     requires { Rising (object_values (map object_tree objects.now)) }
     ensures { option_map object_at result ≡ object_named class.now id (map object_tree objects.now) }
 {
-    let place = start.saturating_add(id as usize).saturating_sub(1);
+    let place = (id as usize).saturating_sub(1);
     match object_there(objects, place, class, id) {
         Some(object) => Some(object),
         None => object_in(objects, class, id),
@@ -206,7 +226,7 @@ fn value_from<'a>(object: &'a ObjectDef, place: usize, a: &Name) -> Option<&'a V
 pub struct Db {
     objects: Vec<ObjectDef>,
     extents: Vec<Extent>,
-    starts: Vec<usize>,
+    ranges: Vec<(usize, usize)>,
     names: NameTable,
 }
 
@@ -229,7 +249,7 @@ impl Model for Db {
       attributes = map extent_labels a.extents.items;
     } };
 
-    ghost invariant = { λ a. IsStored (map object_tree a.objects.items) a.extents.items a.names };
+    ghost invariant = { λ a. IsStored a.objects.items a.extents.items a.ranges.items a.names };
 }
 
 impl Db {
@@ -245,12 +265,12 @@ impl Db {
         let mut objects = objects;
         objects.sort_unstable_by(|a, b| cmp_objects(a, b));
         let extents = extents_of(alloc, schema, objects.as_slice())?;
-        let starts = starts_of(alloc, schema, objects.as_slice())?;
+        let ranges = ranges_of(alloc, schema, objects.as_slice())?;
         let names = table_of(alloc, extents.as_slice())?;
         Ok(Db {
             objects,
             extents,
-            starts,
+            ranges,
             names,
         })
     }
@@ -265,17 +285,15 @@ impl Db {
 
     /// The value of the attribute of a number of the object with the id of the class of a number: the same as `attribute` finds by their
     /// names. It takes constant time where the ids of the class are dense, 1, 2 and so on, and the object lists its values in the class's
-    /// order; else it searches the objects by halves, or walks the attributes of one.
+    /// order; else it searches the objects of the class by halves, or walks the attributes of one.
     pub fn attribute_at(&self, class: usize, id: u32, a: usize) -> Option<&Value>
         ensures { option_map value_at result ≡ attribute_at self.now class id a }
     {
         let extent = extent_numbered(&self.extents, class)?;
         let name = extent.attributes.get(a)?;
-        let start = match self.starts.get(class) {
-            Some(start) => *start,
-            None => 0,
-        };
-        let object = object_from(&self.objects, start, &extent.class, id)?;
+        let range = range_numbered(&self.ranges, class)?;
+        let run = objects_at(&self.objects, range.0, range.1);
+        let object = object_from(run, &extent.class, id)?;
         value_from(object, a, name)
     }
 

@@ -1,3 +1,5 @@
+pub mod JsonData
+pub mod JsonViews
 pub mod MemberNames
 pub mod JsonParts
 pub mod ClassPlaces

@@ -1,6 +1,8 @@
 -- The first fault of databases of persons with their cars, and the objects of one without a fault.
-use Rattle.std.proofs.Common.{◌≡◌, ℕ, List, [], ◌∷◌, Option, Some, Result, Ok, Err, codes, refl, pos}
+use Rattle.std.proofs.Common.{◌≡◌, ℕ, List, [], ◌∷◌, Option, Some, Result, Ok, Err, codes, refl, pos, negsuc, true, false}
 use Rattle.std.specs.Option.{option_map}
+use Rattle.json.specs.Json as json
+use Rattle.serde_json.specs.Data.{number, array, object, item, no_items, member, no_members, unsigned, negative}
 use Rattle.serde_json.specs.Read.{read}
 use Rattle.serde_json.proofs.OnLiterals.{serde_json_on_literals}
 use Rattle.kola_values.specs.Values.{VInt, VStr, VObj, VSet, of_items}
@@ -8,6 +10,7 @@ use Rattle.kola_values.specs.Types.{TInt, TStr, TClass, TSet}
 use Rattle.kola_values.specs.Databases.{Class, Object, Classes, Objects}
 use Rattle.kola_values.specs.Order.{same}
 use Rattle.kola_values.specs.Sets.{any, set_of}
+use Rattle.kola_load.specs.JsonData.{data_of, fits}
 use Rattle.kola_load.specs.Loading.{db_of}
 use Rattle.kola_load.specs.Loaded.{json_text}
 use Rattle.kola_load.specs.declared.fault.DbFault.{DbFault}
@@ -41,6 +44,24 @@ blanks = refl
 
 another_byte : json_text (32 ∷ 11 ∷ []) ≡ 32 ∷ 11 ∷ []
 another_byte = refl
+
+-- ---- what a value reads as
+
+-- {"b": "x", "a": 7, "b": [-7, 300]}
+abbrev twice_b : json.Json
+twice_b = json.object (json.member (codes "b") (json.string (codes "x")) (json.member (codes "a") (json.number (codes "7")) (json.member (codes "b") (json.array (json.item (json.number (codes "-7")) (json.item (json.number (codes "300")) json.no_items))) json.no_members)))
+
+the_last_b : data_of twice_b ≡ object (member (codes "a") (number (unsigned 7)) (member (codes "b") (array (item (number (negative (negsuc 6))) (item (number (unsigned 300)) no_items))) no_members))
+unfolding serde_json_on_literals
+the_last_b = refl
+
+small_enough : fits twice_b ≡ true
+unfolding serde_json_on_literals
+small_enough = refl
+
+too_large : fits (json.array (json.item (json.number (codes "7")) (json.item (json.number (codes "1e400")) json.no_items))) ≡ false
+unfolding serde_json_on_literals
+too_large = refl
 
 -- ---- no fault
 

@@ -11,10 +11,9 @@ use Rattle.kola_base.specs.Spelled.{Spells, FaultOfText, of_lexer, is_stopped}
 use Rattle.kola_base.proofs.SpelledLaws.{is_found, is_fault, one_spelled, spelled_or_fault, one_text_fault, read_once}
 use Rattle.kola_parse.specs.declared.stop.Stop.{Stop}
 use Rattle.kola_parse.specs.declared.stop.Stop.TheVariants as stop
-use Rattle.kola_parse.specs.declared.why.Why.{Why}
 use Rattle.kola_parse.specs.declared.why.Why.TheVariants as why
 use Rattle.kola_parse.specs.Given.{Fails}
-use Rattle.kola_parse.specs.Reader.{Fault, fault, whole}
+use Rattle.kola_parse.specs.Reader.{whole}
 use Rattle.kola_values.specs.Databases.{Classes}
 use Rattle.kola_load.specs.SchemaTree.{ClassAt}
 use Rattle.kola_load.specs.SchemaReaders.{schema_at}

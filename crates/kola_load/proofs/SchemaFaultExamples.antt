@@ -4,7 +4,7 @@ use Rattle.std.specs.Prelude.{codes}
 use Rattle.kola_base.specs.TermWords.{term_word_named, term_words}
 use Rattle.kola_base.specs.QueryWords.{is_among, is_name}
 use Rattle.kola_load.specs.Names.{is_extent_name}
-use Rattle.kola_load.specs.SchemaTree.{Named, TypeAt, AInt, ASet, AClass, AttributeAt, ClassAt}
+use Rattle.kola_load.specs.SchemaTree.{Named, TypeAt, AInt, ASet, AClass, ClassAt}
 use Rattle.kola_load.specs.SchemaFaults.{mark, Stands, IsTwice, IsUnknown, IsUnknownKey, rank, Before, IsFirst}
 use Rattle.kola_load.specs.FirstMarks.{first_mark}
 use Rattle.kola_load.specs.declared.schema_fault.NameWhy.TheVariants.{NotAllowed, TwiceDefined, UnknownClass, UnknownKeyAttribute}

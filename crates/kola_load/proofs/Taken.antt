@@ -1,36 +1,36 @@
 -- The members of an object while the elements of extents are taken out of them.
-use Rattle.std.proofs.Common.{◌≡◌, ℕ, ◌+◌, ◌<◌, true, false, cond, ◌||◌, List, [], ◌∷◌, ◌++◌, Option, Some, None, length, get_or, take, option_map, String, BTreeMap, Global, nat_cmp, string_cmp, string_bytes, refl, sym, ap, subst, ◌∙◌}
+use Rattle.std.proofs.Common.{◌≡◌, ℕ, ◌+◌, ◌<◌, true, false, cond, ◌||◌, List, [], ◌∷◌, ◌++◌, Option, None, length, get_or, take, option_map, BTreeMap, Bor, Global, nat_cmp, refl, sym, ap, subst, ◌∙◌}
 use Rattle.std.specs.BTreeMap as tree
 use Rattle.std.specs.Cmp.Lexicographic.{slice_cmp}
 use Rattle.std.specs.Option.{option_map_or}
 use Rattle.std.specs.Str.{bytes_eq}
 use Rattle.std.proofs.lemmas.List.{take_more}
-use Rattle.std.proofs.lemmas.Map.Text.{btree_map_updates_text}
+use Rattle.std.proofs.lemmas.Map.Text.{btree_map_updates_str}
 use Rattle.serde_json.specs.Data.{object}
 use Rattle.serde_json.specs.Find.{get_member}
-use Rattle.serde_json.specs.View.{view, members_view}
-use Rattle.serde_json.specs.declared.value.Value.{Value}
-use Rattle.serde_json.proofs.Views.{view-lookup}
+use Rattle.json.specs.declared.value.Value.{Value}
 use Rattle.kola_values.specs.Databases.{Class, Classes}
 use Rattle.kola_core.specs.NameLists.{is_listed}
 use Rattle.kola_schema.specs.Schemas.{are_distinct, extent_names}
 use Rattle.kola_values.proofs.Truth.{both_false}
 use Rattle.kola_load.specs.Json.{elements}
-use Rattle.kola_load.specs.Members.{Entries, elements_at, AreLeft}
+use Rattle.kola_load.specs.JsonViews.{view, Entries, members_view}
+use Rattle.kola_load.specs.Members.{elements_at, AreLeft}
 use Rattle.kola_load.specs.Written.{extent_of}
 use Rattle.kola_load.proofs.ClassPlaces.{new_extent}
 use Rattle.kola_load.proofs.IdTables.{bytes_comm}
+use Rattle.kola_load.proofs.JsonViews.{looked_up}
 
-module _ (n : List ℕ) (m : tree.BTreeMap (String Global) Value) where
+module _ (n : List ℕ) (m : tree.BTreeMap (Bor (List ℕ)) (Value Global)) where
   -- what a table has at a name is the member of the name
-  pub member_seen : (r : Option Value) → r ≡ tree.get_by_text m n → option_map view r ≡ get_member n (members_view m.entries)
-  member_seen r e = ap (option_map view) e ∙ view-lookup n m.entries
+  pub member_seen : (r : Option (Value Global)) → r ≡ tree.get_by (λ k. slice_cmp nat_cmp n k.now) m → option_map view r ≡ get_member n (members_view m.entries)
+  member_seen r e = ap (option_map view) e ∙ looked_up n m.entries
 
-  pub others_left : (after : tree.BTreeMap (String Global) Value) → tree.UpdatesBy string_cmp (λ k. slice_cmp nat_cmp n (string_bytes k)) m after None → AreLeft n m.entries after.entries
+  pub others_left : (after : tree.BTreeMap (Bor (List ℕ)) (Value Global)) → tree.UpdatesBy (λ x y. slice_cmp nat_cmp x.now y.now) (λ k. slice_cmp nat_cmp n k.now) m after None → AreLeft n m.entries after.entries
   others_left after u q f =
-      sym (view-lookup q after.entries)
-      ∙ ap (option_map view) (btree_map_updates_text n m after None u q ∙ ap (λ b. cond b None (tree.get_by_text m q)) f)
-      ∙ view-lookup q m.entries
+      sym (looked_up q after.entries)
+      ∙ ap (option_map view) (btree_map_updates_str n m after None u q ∙ ap (λ b. cond b None (tree.get_by (λ k. slice_cmp nat_cmp q k.now) m)) f)
+      ∙ looked_up q m.entries
 
 -- ---- the extents that are not taken yet
 

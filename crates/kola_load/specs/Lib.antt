@@ -1,4 +1,6 @@
 pub mod Json
+pub mod JsonData
+pub mod JsonViews
 pub mod Written
 pub mod Loading
 pub mod Loaded

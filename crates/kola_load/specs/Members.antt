@@ -1,16 +1,11 @@
 -- The members of an object as the program holds them, while the elements of extents are taken out of them.
-use Rattle.std.specs.Prelude.{◌≡◌, ℕ, false, List, [], String}
+use Rattle.std.specs.Prelude.{◌≡◌, ℕ, false, List, []}
 use Rattle.std.specs.Option.{option_map_or}
 use Rattle.std.specs.Str.{bytes_eq}
-use Rattle.std.specs.declared.alloc.Global.{Global}
 use Rattle.serde_json.specs.Data.{Data}
 use Rattle.serde_json.specs.Find.{get_member}
-use Rattle.serde_json.specs.View.{members_view}
-use Rattle.serde_json.specs.declared.value.Value.{Value}
+use Rattle.kola_load.specs.JsonViews.{Entries, members_view}
 use Rattle.kola_load.specs.Json.{elements}
-
-abbrev pub Entries : Type 0
-Entries = List (String Global × Value)
 
 -- the elements of the array at a name
 abbrev pub elements_at : List ℕ → Entries → List Data

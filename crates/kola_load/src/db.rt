@@ -1,96 +1,81 @@
 //! Databases from their text.
-ghost use Rattle.std.specs.Prelude.{◌≡◌, true, map, flat_map, IfOk, IfErr};
-ghost use Rattle.std.specs.List.{list_all};
-ghost use Rattle.serde_json.specs.Data.{Data, object};
-ghost use Rattle.serde_json.specs.View.{view, members_view};
+ghost use Rattle.std.specs.Prelude.{◌≡◌, map, flat_map, IfOk, IfErr};
 ghost use Rattle.kola_values.specs.Sets.{Each};
 ghost use Rattle.kola_database.specs.MeetsTests.{IsHeld};
 ghost use Rattle.kola_database.specs.ObjectViews.{object_tree};
-ghost use Rattle.kola_load.specs.Calls.{Finds, IsOfText};
-ghost use Rattle.kola_load.specs.Json.{is_object};
-ghost use Rattle.kola_load.specs.Loaded.{is_blank, json_text, Reads, IsLoaded, IsFirstFault};
-ghost use Rattle.kola_load.specs.Loading.{db_fault};
-ghost use Rattle.kola_load.specs.Written.{written};
+ghost use Rattle.kola_load.specs.Calls.{Finds, FindsLists, lists_tree};
+ghost use Rattle.kola_load.specs.JsonViews.{view, table_view};
+ghost use Rattle.kola_load.specs.KeyViews.{AreOfClasses, lists_fault};
+ghost use Rattle.kola_load.specs.Loaded.{IsLoaded, IsFirstFault};
 
 use crate::DbFault;
+use crate::document::read_json;
 use crate::elements::all_ids;
 use crate::extents::check_members;
 use crate::keys::check_keys;
+use crate::members::{Members, members_of};
 use crate::objects::read_objects;
+use crate::parts::is_object;
+use json::{Scratch, Value};
 use kola_core::Memory;
 use kola_database::{Db, ObjectDef};
 use kola_schema::Schema;
-use serde_json::{Map, Value};
 use std::alloc::Global;
 
-// Whether a byte is a blank, a tab or one of a line's end.
-fn is_blank(byte: u8) -> bool
-    ensures { result ≡ is_blank byte }
-{
-    matches!(byte, b' ' | b'\t' | b'\n' | b'\r')
-}
-
-// Whether every byte of a text is.
-fn are_blanks(text: &[u8]) -> bool
-    ensures { result ≡ list_all is_blank text.now }
-{
-    text.iter().all(|byte| is_blank(*byte))
-}
-
-// The text; in place of one of blanks an object without members.
-fn json_text(text: &[u8]) -> &[u8]
-    ensures { result.now ≡ json_text text.now }
-{
-    if are_blanks(text) { b"{}" } else { text }
-}
-
-// The value that a text reads as.
-fn read_json(alloc: Global, text: &[u8]) -> Result<Value, DbFault>
-    ensures ok { IfOk result (λ v. Reads text.now (view v)) }
-    ensures err { IfErr result (λ e. IsOfText text.now e) }
-{
-    match Value::from_slice(alloc, json_text(text)) {
-        Ok(value) => Ok(value),
-        Err(error) => Err(if error.is_memory() {
-            DbFault::Memory
-        } else {
-            DbFault::NotJson
-        }),
-    }
-}
-
-// The lists one behind the other.
+// The lists one behind the other. The first is taken as it is.
 fn joined(alloc: Global, lists: Vec<Vec<ObjectDef>>) -> Result<Vec<ObjectDef>, Memory>
     ensures { IfOk result (λ v. map object_tree v.items ≡ flat_map (λ os. map object_tree os.items) lists.items) }
 {
     let mut all = Vec::new(alloc);
     for list in lists {
         let mut list = list;
-        all.append(&mut list)?;
+        if all.is_empty() {
+            all = list;
+        } else {
+            all.append(&mut list)?;
+        }
     }
     Ok(all)
 }
 
-// The members of a value; none where it is no object.
-fn members_of(alloc: Global, value: Value) -> Map<String, Value>
-    ensures { is_object (view value) ≡ true → object (members_view result.entries) ≡ view value }
+// The objects of each class that the members of an object write. The members go as their objects come.
+fn lists_in(
+    alloc: Global,
+    schema: &Schema,
+    members: Members<'_>,
+) -> Result<Vec<Vec<ObjectDef>>, DbFault>
+    ensures { FindsLists schema.now (table_view members.entry) result }
 {
-    match value {
-        Value::Object(members) => members,
-        _ => Map::new(alloc),
-    }
+    check_members(alloc, schema, &members)?;
+    let ids = all_ids(alloc, schema, &members)?;
+    read_objects(alloc, schema, &ids, members)
 }
 
-// The objects that a value writes. The value goes as its objects come.
-fn objects_of(alloc: Global, schema: &Schema, value: Value) -> Result<Vec<ObjectDef>, DbFault>
-    ensures { Finds (db_fault schema.now (view value))
-        (λ v. map object_tree v.items ≡ written schema.now (view value)) result }
+// The objects of each class that a value writes. The value goes as they come.
+fn lists_of(
+    alloc: Global,
+    schema: &Schema,
+    value: Value<'_>,
+) -> Result<Vec<Vec<ObjectDef>>, DbFault>
+    ensures { FindsLists schema.now (view value.entry) result }
 {
-    check_members(alloc, schema, &value)?;
-    let ids = all_ids(alloc, schema, &value)?;
-    let members = members_of(alloc, value);
-    let lists = read_objects(alloc, schema, &ids, members)?;
-    drop(ids);
+    if !is_object(&value) {
+        return Err(DbFault::NotObject);
+    }
+    let members = members_of(alloc, value)?;
+    lists_in(alloc, schema, members)
+}
+
+// The objects of all classes, none of which agrees with an earlier one of its class on a key.
+fn objects_of(
+    alloc: Global,
+    schema: &Schema,
+    lists: Vec<Vec<ObjectDef>>,
+) -> Result<Vec<ObjectDef>, DbFault>
+    requires { AreOfClasses schema.now (lists_tree lists) }
+    ensures { Finds (lists_fault schema.now (lists_tree lists))
+        (λ v. map object_tree v.items ≡ flat_map (λ os. map object_tree os.items) lists.items) result }
+{
     check_keys(alloc, schema, lists.as_slice())?;
     let objects = joined(alloc, lists)?;
     Ok(objects)
@@ -124,8 +109,11 @@ pub fn read_db(alloc: Global, schema: &Schema, text: &[u8]) -> Result<Db, DbFaul
     ensures fault { IfErr result (λ e. IsFirstFault schema.now text.now e) }
 {
     schema.well_formed();
-    let value = read_json(alloc, text)?;
-    let objects = objects_of(alloc, schema, value)?;
+    let mut scratch = Scratch::new(alloc);
+    let value = read_json(alloc, text, &mut scratch)?;
+    let lists = lists_of(alloc, schema, value)?;
+    drop(scratch);
+    let objects = objects_of(alloc, schema, lists)?;
     all_held(objects.as_slice());
     let db = Db::make(alloc, schema, objects)?;
     Ok(db)

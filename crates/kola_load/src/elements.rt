@@ -1,6 +1,6 @@
 //! The extents of a database: arrays of objects, each with an id that no earlier element has.
 ghost use Rattle.std.specs.Prelude.{◌≡◌, ◌++◌, ◌∷◌, [], map};
-ghost use Rattle.serde_json.specs.View.{view};
+ghost use Rattle.kola_load.specs.JsonViews.{view, table_view};
 ghost use Rattle.kola_schema.specs.SchemaViews.{class_tree};
 ghost use Rattle.kola_load.specs.Calls.{Finds, Nothing};
 ghost use Rattle.kola_load.specs.Ids.{AreIds, AreAllIds};
@@ -9,9 +9,10 @@ ghost use Rattle.kola_load.specs.Written.{extent_of};
 
 use crate::DbFault;
 use crate::ids::Ids;
-use crate::json::own_id;
+use crate::members::{Members, member_of};
+use crate::parts::{array_of, is_object, own_id};
+use json::Value;
 use kola_schema::{ClassDef, Schema};
-use serde_json::Value;
 use std::alloc::Global;
 use std::collections::BTreeSet;
 
@@ -19,15 +20,15 @@ use std::collections::BTreeSet;
 fn add_id(
     ids: &mut BTreeSet<u32>,
     class: &ClassDef,
-    before: &[Value],
-    element: &Value,
+    before: &[Value<'_>],
+    element: &Value<'_>,
 ) -> Result<(), DbFault>
     requires { AreIds ids.old (map view before.now) }
     ensures { Finds (element_fault (class_tree class.now) (map view before.now) (view element.now))
         (λ _. AreIds ids.new (map view before.now ++ view element.now ∷ [])) result }
 {
     let index = before.len();
-    if !element.is_object() {
+    if !is_object(element) {
         return Err(DbFault::NotAnObject {
             extent: class.extent.copy()?,
             index,
@@ -53,7 +54,7 @@ fn add_id(
 fn element_ids(
     alloc: Global,
     class: &ClassDef,
-    elements: &[Value],
+    elements: &[Value<'_>],
 ) -> Result<BTreeSet<u32>, DbFault>
     ensures { Finds (first_among (element_fault (class_tree class.now)) [] (map view elements.now))
         (λ s. AreIds s (map view elements.now)) result }
@@ -66,14 +67,18 @@ fn element_ids(
 }
 
 // The ids of the elements of a class's extent.
-fn extent_ids(alloc: Global, class: &ClassDef, value: &Value) -> Result<BTreeSet<u32>, DbFault>
-    ensures { Finds (extent_fault (view value.now) (class_tree class.now))
-        (λ s. AreIds s (extent_of (view value.now) (class_tree class.now))) result }
+fn extent_ids(
+    alloc: Global,
+    class: &ClassDef,
+    members: &Members<'_>,
+) -> Result<BTreeSet<u32>, DbFault>
+    ensures { Finds (extent_fault (table_view members.now) (class_tree class.now))
+        (λ s. AreIds s (extent_of (table_view members.now) (class_tree class.now))) result }
 {
-    let Some(member) = value.get(class.extent.as_text()) else {
+    let Some(member) = member_of(members, class.extent.as_text()) else {
         return Ok(BTreeSet::new(alloc));
     };
-    let Some(elements) = member.as_array() else {
+    let Some(elements) = array_of(member) else {
         return Err(DbFault::NotAnArray {
             extent: class.extent.copy()?,
         });
@@ -82,15 +87,15 @@ fn extent_ids(alloc: Global, class: &ClassDef, value: &Value) -> Result<BTreeSet
 }
 
 // The ids of the objects of each class.
-pub(crate) fn all_ids(alloc: Global, schema: &Schema, value: &Value) -> Result<Ids, DbFault>
-    ensures { Finds (first_of (extent_fault (view value.now)) schema.now)
-        (λ t. AreAllIds t schema.now (view value.now)) result }
+pub(crate) fn all_ids(alloc: Global, schema: &Schema, members: &Members<'_>) -> Result<Ids, DbFault>
+    ensures { Finds (first_of (extent_fault (table_view members.now)) schema.now)
+        (λ t. AreAllIds t schema.now (table_view members.now)) result }
 {
     schema.well_formed();
     let mut table = Ids::new(alloc);
     for class in schema.classes() {
         let class = class.get();
-        let ids = extent_ids(alloc, class, value)?;
+        let ids = extent_ids(alloc, class, members)?;
         table.insert(alloc, &class.name, ids)?;
     }
     Ok(table)

@@ -1,12 +1,12 @@
 //! The members of a database: each names an extent.
-ghost use Rattle.serde_json.specs.View.{view};
+ghost use Rattle.kola_load.specs.JsonViews.{table_view};
 ghost use Rattle.kola_load.specs.Calls.{Finds, Nothing};
 ghost use Rattle.kola_load.specs.Loading.{members_fault};
 
 use crate::DbFault;
+use crate::members::Members;
 use crate::names::{Knows, least_unknown};
 use kola_schema::Schema;
-use serde_json::Value;
 use std::alloc::Global;
 
 // The names of the extents of a schema.
@@ -25,13 +25,14 @@ impl Knows for Extents<'_> {
     }
 }
 
-// Whether the value is an object of which each member names an extent.
-pub(crate) fn check_members(alloc: Global, schema: &Schema, value: &Value) -> Result<(), DbFault>
-    ensures { Finds (members_fault schema.now (view value.now)) Nothing result }
+// Whether each member names an extent.
+pub(crate) fn check_members(
+    alloc: Global,
+    schema: &Schema,
+    members: &Members<'_>,
+) -> Result<(), DbFault>
+    ensures { Finds (members_fault schema.now (table_view members.now)) Nothing result }
 {
-    let Some(members) = value.as_object() else {
-        return Err(DbFault::NotObject);
-    };
     let extents = Extents { schema };
     match least_unknown(alloc, &extents, members)? {
         Some(name) => Err(DbFault::UnknownExtent { name }),

@@ -3,15 +3,19 @@
 
 mod db;
 mod db_laws;
+mod document;
 mod elements;
 mod extents;
 mod fault;
+mod fitting;
 mod gathered;
 mod ids;
-mod json;
 mod keys;
+mod members;
 mod names;
+mod numbers;
 mod objects;
+mod parts;
 mod schema_alphabet;
 mod schema_fault;
 mod schema_laws;

@@ -1,7 +1,6 @@
 //! The objects of a database: each has exactly the attributes of its class, each of its type, and its references name objects.
 ghost use Rattle.std.specs.Prelude.{◌≡◌, codes, ◌∷◌, map, IfOk};
-ghost use Rattle.serde_json.specs.Data.{object};
-ghost use Rattle.serde_json.specs.View.{view, members_view};
+ghost use Rattle.kola_load.specs.JsonViews.{view, table_view};
 ghost use Rattle.kola_schema.specs.Schemas.{names_of};
 ghost use Rattle.kola_schema.specs.SchemaViews.{class_tree};
 ghost use Rattle.kola_database.specs.ObjectViews.{object_tree};
@@ -9,21 +8,22 @@ ghost use Rattle.kola_values.specs.Views.{type_entry, value_entry};
 ghost use Rattle.kola_load.specs.Calls.{Finds};
 ghost use Rattle.kola_load.specs.Ids.{there};
 ghost use Rattle.kola_load.specs.Members.{elements_at, AreLeft};
-ghost use Rattle.kola_load.specs.Json.{elements, least, names_beside};
+ghost use Rattle.kola_load.specs.Json.{least, names_beside};
 ghost use Rattle.kola_load.specs.Loading.{first_of, attribute_fault, object_fault, objects_fault};
 ghost use Rattle.kola_load.specs.declared.fault.DbFault.TheVariants as faults;
 ghost use Rattle.kola_load.specs.Written.{id_in, attribute_in, object_in, objects_in};
 
 use crate::DbFault;
 use crate::ids::Ids;
-use crate::json::own_id;
+use crate::members::{Members, id_among, member_of, members_of};
 use crate::names::{Knows, least_unknown};
+use crate::parts::elements_in;
 use crate::values::{missing, value_of};
+use json::Value as Json;
 use kola_core::{Memory, Name, Text};
 use kola_database::ObjectDef;
 use kola_schema::{ClassDef, IndexedClass, Schema};
 use kola_values::{Ty, Value, ValueFields};
-use serde_json::{Map, Value as Json};
 use std::alloc::Global;
 
 // The names of the members of an object of a class: `#` and the attributes.
@@ -43,15 +43,16 @@ impl Knows for Labels<'_> {
 }
 
 // The least name of a member of an object that is neither `#` nor an attribute.
-fn unknown_label(alloc: Global, class: &IndexedClass, object: &Json) -> Result<Option<Text>, Memory>
+fn unknown_label(
+    alloc: Global,
+    class: &IndexedClass,
+    object: &Members<'_>,
+) -> Result<Option<Text>, Memory>
     ensures { IfOk result
-        (λ o. o ≡ least (names_beside (codes "#" ∷ names_of class.now.attributes) (view object.now))) }
+        (λ o. o ≡ least (names_beside (codes "#" ∷ names_of class.now.attributes) (table_view object.now))) }
 {
-    let Some(members) = object.as_object() else {
-        return Ok(None);
-    };
     let labels = Labels { class };
-    least_unknown(alloc, &labels, members)
+    least_unknown(alloc, &labels, object)
 }
 
 // The fault that an attribute has no member.
@@ -94,16 +95,16 @@ fn read_attribute(
     ids: &Ids,
     class: &ClassDef,
     id: u32,
-    object: &Json,
+    object: &Members<'_>,
     attribute: &(Name, Ty),
 ) -> Result<(Name, Value), DbFault>
-    requires { id ≡ id_in (view object.now) }
-    ensures { Finds (attribute_fault (there ids.now) (class_tree class.now) (view object.now)
+    requires { id ≡ id_in (table_view object.now) }
+    ensures { Finds (attribute_fault (there ids.now) (class_tree class.now) (table_view object.now)
         (type_entry attribute.now))
-        (λ e. value_entry e ≡ attribute_in (view object.now) (type_entry attribute.now)) result }
+        (λ e. value_entry e ≡ attribute_in (table_view object.now) (type_entry attribute.now)) result }
 {
     let (name, t) = attribute;
-    let Some(member) = object.get(name.as_text()) else {
+    let Some(member) = member_of(object, name.as_text()) else {
         return Err(missing_attribute(&class.name, id, name)?);
     };
     let Some(value) = value_of(alloc, t, member)? else {
@@ -121,11 +122,11 @@ fn read_attributes(
     ids: &Ids,
     class: &ClassDef,
     id: u32,
-    object: &Json,
+    object: &Members<'_>,
 ) -> Result<ValueFields, DbFault>
-    requires { id ≡ id_in (view object.now) }
-    ensures { Finds (first_of (attribute_fault (there ids.now) (class_tree class.now) (view object.now))
-        class.now.attributes) (λ vs. vs ≡ map (attribute_in (view object.now)) class.now.attributes) result }
+    requires { id ≡ id_in (table_view object.now) }
+    ensures { Finds (first_of (attribute_fault (there ids.now) (class_tree class.now) (table_view object.now))
+        class.now.attributes) (λ vs. vs ≡ map (attribute_in (table_view object.now)) class.now.attributes) result }
 {
     let mut values = ValueFields::new(alloc);
     for attribute in class.attributes.as_slice() {
@@ -141,11 +142,11 @@ fn read_known(
     ids: &Ids,
     class: &ClassDef,
     id: u32,
-    object: &Json,
+    object: &Members<'_>,
 ) -> Result<ObjectDef, DbFault>
-    requires { id ≡ id_in (view object.now) }
-    ensures { Finds (first_of (attribute_fault (there ids.now) (class_tree class.now) (view object.now))
-        class.now.attributes) (λ o. object_tree o ≡ object_in (class_tree class.now) (view object.now)) result }
+    requires { id ≡ id_in (table_view object.now) }
+    ensures { Finds (first_of (attribute_fault (there ids.now) (class_tree class.now) (table_view object.now))
+        class.now.attributes) (λ o. object_tree o ≡ object_in (class_tree class.now) (table_view object.now)) result }
 {
     let values = read_attributes(alloc, ids, class, id, object)?;
     Ok(ObjectDef {
@@ -165,17 +166,17 @@ fn unknown_attribute(class: &Name, id: u32, name: Text) -> DbFault
     }
 }
 
-// The object that an element writes.
-fn read_object(
+// The object that the members of an element write.
+fn read_members(
     alloc: Global,
     ids: &Ids,
     class: &IndexedClass,
-    object: &Json,
+    object: &Members<'_>,
 ) -> Result<ObjectDef, DbFault>
-    ensures { Finds (object_fault (there ids.now) class.now (view object.now))
-        (λ o. object_tree o ≡ object_in class.now (view object.now)) result }
+    ensures { Finds (object_fault (there ids.now) class.now (table_view object.now))
+        (λ o. object_tree o ≡ object_in class.now (table_view object.now)) result }
 {
-    let id = own_id(object).unwrap_or(0);
+    let id = id_among(object).unwrap_or(0);
     let unknown = unknown_label(alloc, class, object)?;
     match unknown {
         Some(name) => Err(unknown_attribute(&class.get().name, id, name)),
@@ -183,36 +184,40 @@ fn read_object(
     }
 }
 
+// The object that an element writes.
+fn read_object(
+    alloc: Global,
+    ids: &Ids,
+    class: &IndexedClass,
+    element: Json<'_>,
+) -> Result<ObjectDef, DbFault>
+    ensures { Finds (object_fault (there ids.now) class.now (view element.entry))
+        (λ o. object_tree o ≡ object_in class.now (view element.entry)) result }
+{
+    let members = members_of(alloc, element)?;
+    read_members(alloc, ids, class, &members)
+}
+
 // The objects of a class that elements write. Each element goes as soon as its object is made.
 fn read_class(
     alloc: Global,
     ids: &Ids,
     class: &IndexedClass,
-    elements: Vec<Json>,
+    elements: Vec<Json<'_>>,
 ) -> Result<Vec<ObjectDef>, DbFault>
-    ensures { Finds (first_of (object_fault (there ids.now) class.now) (map view elements.items))
-        (λ v. map object_tree v.items ≡ map (object_in class.now) (map view elements.items)) result }
+    ensures { Finds (first_of (object_fault (there ids.now) class.now) (map view elements.entry.items))
+        (λ v. map object_tree v.items ≡ map (object_in class.now) (map view elements.entry.items)) result }
 {
     let mut objects = Vec::new(alloc);
     for element in elements {
-        let object = read_object(alloc, ids, class, &element)?;
+        let object = read_object(alloc, ids, class, element)?;
         objects.push(object)?;
     }
     Ok(objects)
 }
 
-// The elements of an array; any other value has none.
-fn elements_in(alloc: Global, value: Json) -> Vec<Json>
-    ensures { map view result.items ≡ elements (view value) }
-{
-    match value {
-        Json::Array(elements) => elements,
-        _ => Vec::new(alloc),
-    }
-}
-
 // The elements of the extent of a name, taken out of the members.
-fn elements_of(alloc: Global, members: &mut Map<String, Json>, extent: &Name) -> Vec<Json>
+fn elements_of<'a>(alloc: Global, members: &mut Members<'a>, extent: &Name) -> Vec<Json<'a>>
     ensures taken { map view result.items ≡ elements_at extent.now members.old.entries }
     ensures others { AreLeft extent.now members.old.entries members.new.entries }
 {
@@ -227,11 +232,11 @@ pub(crate) fn read_objects(
     alloc: Global,
     schema: &Schema,
     ids: &Ids,
-    given: Map<String, Json>,
+    given: Members<'_>,
 ) -> Result<Vec<Vec<ObjectDef>>, DbFault>
-    ensures { Finds (first_of (objects_fault (there ids.now) (object (members_view given.entries))) schema.now)
+    ensures { Finds (first_of (objects_fault (there ids.now) (table_view given.entry)) schema.now)
         (λ v. map (λ l. map object_tree l.items) v.items
-        ≡ map (objects_in (object (members_view given.entries))) schema.now) result }
+        ≡ map (objects_in (table_view given.entry)) schema.now) result }
 {
     schema.well_formed();
     let mut members = given;

@@ -1,6 +1,6 @@
 use Rattle.std.proofs.Common.{◌++◌, ◌∷◌, [], map, sym, ap, ◌∙◌, refl, subst}
 use Rattle.std.proofs.lemmas.List.{take-map}
-use Rattle.serde_json.specs.View.{view}
+use Rattle.kola_load.specs.JsonViews.{view}
 use Rattle.kola_schema.specs.SchemaViews.{class_tree}
 use Rattle.kola_core.proofs.Lists.{taken_more}
 use Rattle.kola_load.specs.Ids.{AreIds}

@@ -1,5 +1,5 @@
 use Rattle.std.proofs.Common.{◌≡◌, [], map, take, drop}
-use Rattle.serde_json.specs.View.{view}
+use Rattle.kola_load.specs.JsonViews.{view}
 use Rattle.kola_schema.specs.SchemaViews.{class_tree}
 use Rattle.kola_load.specs.Ids.{AreIds}
 use Rattle.kola_load.specs.Loading.{first_among, element_fault}

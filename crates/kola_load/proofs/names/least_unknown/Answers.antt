@@ -1,4 +1,4 @@
-use Rattle.std.proofs.Common.{◌≡◌, ℕ, Bool, List, not, sym, ap, ◌∙◌}
+use Rattle.std.proofs.Common.{◌≡◌, ℕ, Bool, List, not, refl, sym, ap, ◌∙◌}
 use Rattle.std.proofs.Common.{Some}
 use Rattle.kola_core.specs.NameLists.{is_listed}
 use Rattle.kola_load.proofs.MemberNames.{left_first, left_next, left_found, left_none}
@@ -18,12 +18,12 @@ loop-name-init g c =
 
 pub loop-name-preserved : goal.loop-name-preserved
 loop-name-preserved g c =
-    (tt, tt, left_next (unknown g c.args.known.now) c.args.members.now.entries (c.in-Some.name.now, c.in-Some.field-0-1.now) c.next.new.self c.loop-name.name-iterator c.in-Some.ensures.steps c.loop-name.invariant.2 (told g c.args.known.now _ _ _ c.knows.ensures c.as_str.ensures.value c.if-not-knows.false))
+    (tt, tt, left_next (unknown g c.args.known.now) c.args.members.now.entries (c.in-Some.name.now, c.in-Some.field-0-1.now) c.next.new.self c.loop-name.name-iterator c.in-Some.ensures.steps c.loop-name.invariant.2 (told g c.args.known.now _ _ _ c.knows.ensures refl c.if-not-knows.false))
 
 pub returns-then-not-knows : goal.returns-then-not-knows
 returns-then-not-knows g c =
-    ap Some (c.in_ok-text.ensures ∙ c.as_str-then-not-knows.ensures.value)
-    ∙ left_found (unknown g c.args.known.now) c.args.members.now.entries (c.in-Some.name.now, c.in-Some.field-0-1.now) c.next.new.self c.loop-name.name-iterator c.in-Some.ensures.steps c.loop-name.invariant.2 (told g c.args.known.now _ _ _ c.knows.ensures c.as_str.ensures.value c.if-not-knows.true)
+    ap Some c.in_ok-text.ensures
+    ∙ left_found (unknown g c.args.known.now) c.args.members.now.entries (c.in-Some.name.now, c.in-Some.field-0-1.now) c.next.new.self c.loop-name.name-iterator c.in-Some.ensures.steps c.loop-name.invariant.2 (told g c.args.known.now _ _ _ c.knows.ensures refl c.if-not-knows.true)
 
 pub returns : goal.returns
 returns g c = left_none (unknown g c.args.known.now) c.args.members.now.entries c.loop-name.name-iterator c.in-None.ensures.steps.0 c.loop-name.invariant.2

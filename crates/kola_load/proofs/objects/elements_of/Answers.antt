@@ -1,6 +1,6 @@
 use Rattle.std.proofs.Common.{Some, None, [], map, subst, ap, ◌∙◌}
 use Rattle.std.specs.Option.{option_map_or}
-use Rattle.serde_json.specs.View.{view}
+use Rattle.kola_load.specs.JsonViews.{view}
 use Rattle.kola_load.specs.Json.{elements}
 use Rattle.kola_load.specs.Members.{elements_at, AreLeft}
 use Rattle.kola_load.proofs.Taken.{member_seen, others_left}

@@ -1,21 +1,15 @@
-use Rattle.std.proofs.Common.{sym, ap, ◌∙◌, ◌≡◌, None, subst}
-use Rattle.std.specs.Option.{option_map, option_or}
-use Rattle.serde_json.specs.View.{view}
-use Rattle.kola_values.specs.Databases.{Class}
-use Rattle.kola_database.specs.ObjectViews.{object_tree}
+use Rattle.std.proofs.Common.{ap, ◌∙◌}
 use Rattle.kola_load.specs.Ids.{there}
-use Rattle.kola_load.specs.Loading.{first_of, label_fault, attribute_fault}
-use Rattle.kola_load.specs.Written.{id_in, object_in}
-use Rattle.kola_load.specs.declared.fault.DbFault.TheVariants.{UnknownAttribute}
+use Rattle.kola_load.specs.JsonViews.{view}
+use Rattle.kola_load.specs.Loading.{object_fault}
+use Rattle.kola_load.specs.Written.{object_in}
 use Rattle.kola_load.proofs.Answering.{finds_for}
+use Rattle.kola_load.proofs.JsonViews.{same_fault, same_object}
 use Rattle.kola_load.proofs.objects.read_object.Goals as goal
 
-pub returns-in-None : goal.returns-in-None
-returns-in-None c =
+pub returns : goal.returns
+returns c =
     let k = c.args.class.now in
-    let d = view c.args.object.now in
+    let d = view c.args.element in
     let t = there c.args.ids.now in
-    let none : label_fault k d ≡ None = ap (option_map (UnknownAttribute k.name (id_in d))) (sym c.in_ok-unknown.ensures ∙ c.in-None.is) in
-    finds_for _ _ _ _
-    (ap (λ (x : Class). first_of (attribute_fault t x d) x.attributes) c.get-in-None.ensures ∙ sym (ap (λ o. option_or o (first_of (attribute_fault t k d) k.attributes)) none))
-    (λ o e. e ∙ ap (λ x. object_in x d) c.get-in-None.ensures) c.read_known.result c.read_known.ensures
+    finds_for _ _ _ _ (ap (object_fault t k) c.in_ok-members.ensures ∙ same_fault t k d) (λ o e. e ∙ ap (object_in k) c.in_ok-members.ensures ∙ same_object k d) c.read_members.result c.read_members.ensures

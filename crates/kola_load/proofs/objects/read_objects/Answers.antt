@@ -1,7 +1,6 @@
 use Rattle.std.proofs.Common.{◌≡◌, ◌++◌, ◌∷◌, [], map, take, subst, sym, ap, ◌∙◌}
 use Rattle.std.proofs.lemmas.List.{map-append, take_more}
-use Rattle.serde_json.specs.Data.{object}
-use Rattle.serde_json.specs.View.{view, members_view}
+use Rattle.kola_load.specs.JsonViews.{view, table_view}
 use Rattle.kola_values.specs.Databases.{Class}
 use Rattle.kola_database.specs.ObjectViews.{object_tree}
 use Rattle.kola_schema.proofs.Schemas.{parts_of_schema}
@@ -21,7 +20,7 @@ returns-in_err-objects c =
     let k = c.class-item.result in
     let given = c.args.given.entries in
     let now = c.loop-class.members.entries in
-    let j = object (members_view given) in
+    let j = table_view c.args.given in
     let test = objects_fault (there c.args.ids.now) j in
     let p = at_place c.classes-class-items.result.now S i k c.classes-class-items.ensures c.loop-class-test.true c.class-item.is in
     let taken : map view c.elements_of-elements.result.items ≡ extent_of j k = c.elements_of-elements.ensures.taken ∙ ap (λ (x : Class). elements_at x.extent now) c.get.ensures ∙ extent_ahead S i k p.0 p.1 given now c.loop-class.invariant.2 (parts_of_schema S c.well_formed-2.ensures).1 in
@@ -36,7 +35,7 @@ loop-class-preserved c =
     let given = c.args.given.entries in
     let now = c.loop-class.members.entries in
     let after = c.elements_of-elements.new.members.entries in
-    let j = object (members_view given) in
+    let j = table_view c.args.given in
     let test = objects_fault (there c.args.ids.now) j in
     let p = at_place c.classes-class-items.result.now S i k c.classes-class-items.ensures c.loop-class-test.true c.class-item.is in
     let taken : map view c.elements_of-elements.result.items ≡ extent_of j k = c.elements_of-elements.ensures.taken ∙ ap (λ (x : Class). elements_at x.extent now) c.get.ensures ∙ extent_ahead S i k p.0 p.1 given now c.loop-class.invariant.2 (parts_of_schema S c.well_formed-2.ensures).1 in (

@@ -1,6 +1,6 @@
 use Rattle.std.proofs.Common.{◌≡◌, Some, not, map, option_map, sym, ap, ◌∙◌}
 use Rattle.std.specs.List.{find}
-use Rattle.serde_json.specs.View.{view, items_view}
+use Rattle.kola_load.specs.JsonViews.{view, items_view}
 use Rattle.serde_json.specs.Find.{as_array}
 use Rattle.kola_values.specs.Types.{TSet}
 use Rattle.kola_values.specs.Views.{type_tree}
@@ -11,11 +11,11 @@ use Rattle.kola_load.proofs.ValueLoops.{not_here, found_here}
 use Rattle.kola_load.proofs.Walks.{seen_at}
 use Rattle.kola_load.proofs.values.+missing.Goals as goal
 
-pub missing-returns-in_ok-as_array-in-Set : goal.missing-returns-in_ok-as_array-in-Set
-missing-returns-in_ok-as_array-in-Set t c =
+pub missing-returns-in_ok-array_of-in-Set : goal.missing-returns-in_ok-array_of-in-Set
+missing-returns-in_ok-array_of-in-Set t c =
     let vs = c.deref.result.now in
     let d = view c.args.value.now in
-    let is : as_array d ≡ Some (items_view vs) = sym c.in_ok-as_array-in-Set.ensures ∙ ap (λ l. Some (items_view l)) (sym c.deref.ensures.value) in
+    let is : as_array d ≡ Some (items_view vs) = sym c.in_ok-array_of-in-Set.ensures ∙ ap (λ l. Some (items_view l)) (sym c.deref.ensures.value) in
     let e = set_references (type_tree c.get.result.now) d vs is ∙ ap (λ u. references u d) (ap TSet c.get.ensures ∙ sym (ap type_tree c.in-Set.is)) in
     c.missing_among.ensures ∙ ap (λ rs. option_map (λ r. r.1) (find (λ r. not (there c.args.ids.now r)) rs)) e
 

@@ -1,5 +1,5 @@
 use Rattle.std.proofs.Common.{◌≡◌, ◌+◌, ◌*◌, not, map, drop}
-use Rattle.serde_json.specs.View.{view}
+use Rattle.kola_load.specs.JsonViews.{view}
 use Rattle.kola_values.specs.Views.{type_tree}
 use Rattle.kola_values.specs.Models.Weights.{type_weight}
 use Rattle.kola_load.specs.Ids.{there}

@@ -1,6 +1,6 @@
 use Rattle.std.proofs.Common.{◌≡◌, ◌++◌, ◌∷◌, [], IfOk, Some, map, option_map, sym, ap, subst, ◌∙◌, arith}
 use Rattle.std.proofs.lemmas.List.{length-map}
-use Rattle.serde_json.specs.View.{view, items_view}
+use Rattle.kola_load.specs.JsonViews.{view, items_view}
 use Rattle.serde_json.specs.Find.{as_array}
 use Rattle.kola_values.specs.Sets.{canon, set_of}
 use Rattle.kola_values.specs.Types.{TSet}
@@ -37,10 +37,10 @@ set_of-returns t c =
     let so_far = c.loop-element.invariant in
     ap (λ l. Some (VSet (of_items l))) (c.in_ok-set.ensures ∙ so_far.1) ∙ ap (option_map set_of) (sym (all_written (value_of (type_tree c.args.t.now)) (map view es) c.loop-element.element-index so_far.0 so_far.2 (let l = length-map es view in omega arith)))
 
-pub value_of-returns-in-Some-as_array : goal.value_of-returns-in-Some-as_array
-value_of-returns-in-Some-as_array t c =
+pub value_of-returns-in-Some-array_of : goal.value_of-returns-in-Some-array_of
+value_of-returns-in-Some-array_of t c =
     let vs = c.deref.result.now in
     let d = view c.args.value.now in
-    let is : as_array d ≡ Some (items_view vs) = sym c.in-Some-as_array.ensures ∙ ap (λ l. Some (items_view l)) (sym c.deref.ensures.value) in
+    let is : as_array d ≡ Some (items_view vs) = sym c.in-Some-array_of.ensures ∙ ap (λ l. Some (items_view l)) (sym c.deref.ensures.value) in
     let e = set_value (type_tree c.get.result.now) d vs is ∙ ap (λ u. value_of u d) (ap TSet c.get.ensures ∙ sym (ap type_tree c.in-Set.is)) in
     subst (λ r. IfOk c.set_of.result (λ o. option_map value_tree o ≡ r)) e c.set_of.ensures

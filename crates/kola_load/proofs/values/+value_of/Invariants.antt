@@ -1,5 +1,5 @@
 use Rattle.std.proofs.Common.{◌≡◌, ◌+◌, ◌*◌, List, map}
-use Rattle.serde_json.specs.View.{view}
+use Rattle.kola_load.specs.JsonViews.{view}
 use Rattle.kola_values.specs.Values.{ValueTree}
 use Rattle.kola_values.specs.Sets.{canon}
 use Rattle.kola_values.specs.Views.{type_tree}

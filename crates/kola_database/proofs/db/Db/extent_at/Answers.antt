@@ -1,4 +1,4 @@
-use Rattle.std.proofs.Common.{◌∙◌, ap, map, sym, slice_get, option_map}
+use Rattle.std.proofs.Common.{◌∙◌, ap, map, slice_get, option_map}
 use Rattle.kola_database.specs.Stored.{extent_at}
 use Rattle.kola_database.specs.ObjectViews.{object_tree}
 use Rattle.kola_database.proofs.Numbered.{members_numbered}

@@ -8,12 +8,13 @@ use Rattle.kola_values.specs.Databases.{Classes, objects_of}
 use Rattle.kola_schema.specs.Meets.{Meets, object_values}
 use Rattle.kola_schema.specs.Schemas.{are_distinct}
 use Rattle.kola_database.specs.ObjectViews.{object_tree}
-use Rattle.kola_database.specs.ExtentViews.{extent_entry, extent_labels, filled}
+use Rattle.kola_database.specs.ExtentViews.{AreRanges, extent_entry, extent_labels, filled}
+use Rattle.kola_database.specs.declared.db.Extent.{Extent}
 use Rattle.kola_database.specs.declared.object.ObjectDef.{ObjectDef}
 use Rattle.kola_values.specs.Models.Total.{cmp_total}
 use Rattle.kola_database.proofs.Reordered.{meets_reordered}
 use Rattle.kola_schema.proofs.Schemas.{parts_of_schema}
-use Rattle.kola_database.proofs.Stored.{object_value, in_order, filled_sets, filled_names, filled_entries, filled_labels, each_once}
+use Rattle.kola_database.proofs.Stored.{object_value, in_order, filled_sets, filled_names, filled_classes, filled_entries, filled_labels, each_once}
 use Rattle.kola_database.proofs.db.Db.make.Goals as goal
 use Rattle.kola_database.proofs.db.Db.make.Goals.{In_ok-extents}
 
@@ -29,6 +30,13 @@ extents_of-requires c =
     let up = c.sort_unstable_by.ensures.sorted (λ x y. is_lt (cmp (object_value x) (object_value y))) (ranks_by cmp_total object_value) (always_returns_same _ _ _ (λ a r f' k. search rules)) in
     let rises = in_order c.args.objects.items ys c.sort_unstable_by.ensures.permutation c.requires.distinct up in
     subst (λ l. Rising (object_values (map object_tree l))) (sym c.as_slice.ensures.value) rises
+
+pub ranges_of-requires : goal.ranges_of-requires
+ranges_of-requires c =
+    let ys = c.sort_unstable_by.new.self.items in
+    let up = c.sort_unstable_by.ensures.sorted (λ x y. is_lt (cmp (object_value x) (object_value y))) (ranks_by cmp_total object_value) (always_returns_same _ _ _ (λ a r f' k. search rules)) in
+    let rises = in_order c.args.objects.items ys c.sort_unstable_by.ensures.permutation c.requires.distinct up in
+    subst (λ l. Rising (object_values (map object_tree l))) (sym c.as_slice-2.ensures.value) rises
 
 pub table_of-requires : goal.table_of-requires
 table_of-requires c =
@@ -47,6 +55,8 @@ invariant_of-result c =
     record {
       rises = rises;
       sets = subst (Each (λ x. x.members ≡ canon (objects_of x.class d))) (sym (made (goal.at.invariant_of-result c).In_ok-extents)) (filled_sets c.args.schema.now d rises);
+      ranged = subst (λ l. AreRanges l (map (λ (x : Extent). x.class) c.in_ok-extents.extents.items) c.in_ok-ranges.ranges.items) c.as_slice-2.ensures.value
+          (subst (λ ns. AreRanges c.as_slice-2.result.now ns c.in_ok-ranges.ranges.items) (sym (ap (map (λ (x : Extent). x.class)) (made (goal.at.invariant_of-result c).In_ok-extents) ∙ filled_classes c.args.schema.now d)) c.in_ok-ranges.ensures);
       named = c.in_ok-names.ensures ∙ ap (map (λ x. x.name)) c.as_slice-3.ensures.value;
       once = each_once c.args.schema.now d d (meets_sorted c.args.objects.items ys c.args.schema.now c.sort_unstable_by.ensures.permutation c.requires).fits;
     }

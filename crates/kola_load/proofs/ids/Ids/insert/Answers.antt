@@ -1,4 +1,3 @@
-use Rattle.std.proofs.Common.{◌∙◌}
 use Rattle.kola_load.proofs.IdTables.{updated}
 use Rattle.kola_load.proofs.ids.Ids.insert.Goals as goal
 

@@ -1,9 +1,0 @@
-use Rattle.std.proofs.Common.{sym, ap, ◌∙◌}
-use Rattle.serde_json.specs.Find.{as_array}
-use Rattle.serde_json.specs.View.{view}
-use Rattle.serde_json.proofs.Views.{view-Array}
-use Rattle.kola_load.proofs.JsonParts.{elements_seen}
-use Rattle.kola_load.proofs.objects.elements_in.Goals as goal
-
-pub returns-in-Array : goal.returns-in-Array
-returns-in-Array c = sym (elements_seen (view c.args.value) c.in-Array.elements.items (ap as_array (ap view c.in-Array.is ∙ view-Array c.in-Array.elements)))

@@ -3,14 +3,14 @@ use Rattle.std.proofs.Common.{◌≡◌, ◌↔◌, ℕ, ◌+◌, ◌<◌, ◌�
 use Rattle.std.specs.Str.{bytes_eq}
 use Rattle.std.proofs.lemmas.List.{drop_all}
 use Rattle.kola_core.specs.declared.name.Name.{Name}
-use Rattle.kola_core.proofs.Lists.{left_less, length_seen}
+use Rattle.kola_core.proofs.Lists.{left_less}
 use Rattle.kola_values.specs.Types.{TypeTree, TSet, TPair, TStruct, TField, of_type_fields}
 use Rattle.kola_values.specs.Views.{type_tree, type_entry}
 use Rattle.kola_values.specs.declared.ty.Ty.{Ty}
 use Rattle.kola_term.proofs.Inversions.{some_same, same_name-equal}
 use Rattle.kola_term.proofs.Introductions.{same_name_itself}
 use Rattle.kola_match.specs.Substitutions.{Substitution, sub_type, sub_types}
-use Rattle.kola_match.specs.Binds.{Binds, Extends, Finds, FieldsGive}
+use Rattle.kola_match.specs.Binds.{Binds, Finds, FieldsGive}
 use Rattle.kola_match.proofs.BindLaws.{finds_same, finds_then, finds_nothing_more}
 
 abbrev Entries : Type 0
@@ -37,7 +37,7 @@ pub fields_start : (us vs : Entries) (old : Binds) → length us ≡ length vs �
 fields_start us vs old e = record { lengths = e; rest = λ r b f. f }
 
 module _ (xs ys : List (Name × Ty)) (us vs : Entries) (i : ℕ) (old now : Binds) (e : map type_entry xs ≡ us) (f : map type_entry ys ≡ vs) (l : FieldsLeft us vs i old now)
-  (x y : Name × Ty) (p : i < length xs) (q : i < length ys) (g : x ≡ get_or xs i x) (h : y ≡ get_or ys i y) where
+    (x y : Name × Ty) (p : i < length xs) (q : i < length ys) (g : x ≡ get_or xs i x) (h : y ≡ get_or ys i y) where
   at_step : (r : Bool) (b : Binds) → Finds r now b (λ s. FieldsGive s (type_entry x ∷ drop (i + 1) us) (type_entry y ∷ drop (i + 1) vs)) → Finds r old b (λ s. FieldsGive s us vs)
   at_step r b k = l.rest r b (subst (λ z. Finds r now b (λ s. FieldsGive s z (drop i vs))) (sym (left_less type_entry xs us i x e p g)) (subst (λ z. Finds r now b (λ s. FieldsGive s (type_entry x ∷ drop (i + 1) us) z)) (sym (left_less type_entry ys vs i y f q h)) k))
 

@@ -1,20 +1,18 @@
 -- Instances by the demands of the variables: what meets the demands at one spot of each variable is typed, and what is typed meets them.
-use Rattle.std.proofs.Common.{◌≡◌, ℕ, ◌+◌, ◌<◌, Bool, true, false, Option, Some, None, refl, sym, ap, ◌∙◌, subst, List, [], ◌∷◌, ◌++◌}
+use Rattle.std.proofs.Common.{◌≡◌, ℕ, Option, Some, None, refl, sym, ap, ◌∙◌, subst, List, [], ◌∷◌}
 use Rattle.kola_values.specs.Types.{TypeTree}
 use Rattle.kola_values.specs.Databases.{Classes, look_up}
 use Rattle.kola_term.specs.Terms.{FMeta, PMeta, CMeta, TermTree, TermF, TermP, TermC}
-use Rattle.kola_term.specs.Typing.{Context, MetaTree, MFun, MPred, MConst, out, is_typed, const_type}
+use Rattle.kola_term.specs.Typing.{Context, MetaTree, MFun, MPred, MConst, out, is_typed}
 use Rattle.kola_term.specs.Places.{sub_at, place, Typed}
 use Rattle.kola_term.proofs.Introductions.{fun_some, pred_some}
 use Rattle.kola_term.proofs.Paths.{typed_at}
 use Rattle.kola_match.specs.Substitutions.{Substitution, sub_type, inst, IsTyped, HasMetaType}
 use Rattle.kola_match.specs.Pairs.{Sides, AllGive}
-use Rattle.kola_match.specs.Binds.{Binds, Extends, Finds, substitution_of}
 use Rattle.kola_match.specs.Occurring.{variable}
-use Rattle.kola_match.specs.Instances.{Instance, Decided, Demands, DemandAt, AllDemand, Spot, Spots, FoundAt, AllFound}
+use Rattle.kola_match.specs.Instances.{Demands, AllDemand, Spots, AllFound}
 use Rattle.kola_match.proofs.Closed.{AttributesClosed}
 use Rattle.kola_match.proofs.Commute.{sub_inst, place_inst}
-use Rattle.kola_match.proofs.BindLaws.{found_extends}
 
 -- ---- one variable
 
@@ -72,4 +70,3 @@ module _ (S : Classes) (k : AttributesClosed S) (x vars : Context) (input T : Ty
       (subst (λ (z : List ℕ × MetaTree). HasMetaType S x s z.0 z.1) a.0 (typed_by e.0.0 e.0.1 e.1.0 e.1.1 e.1.2 a.1.1 a.1.3 (a.1.4 s g) j.0), all_typed sides vs es a.2 g j.1)
   all_typed sides [] (e ∷ es) a g j = absurd a
   all_typed sides (v ∷ vs) [] a g j = absurd a
-

@@ -1,5 +1,5 @@
 -- A search for a part of a term by the term's children.
-use Rattle.std.proofs.Common.{◌≡◌, ℕ, zero, suc, Bool, true, false, refl, sym, ap, ◌∙◌, subst, List, [], ◌∷◌, ◌++◌, Option, Some, None, option_and_then, ◌⊎◌, inl, inr}
+use Rattle.std.proofs.Common.{◌≡◌, ℕ, zero, suc, Bool, true, false, refl, sym, ap, ◌∙◌, subst, List, [], ◌∷◌, ◌++◌, Some, ◌⊎◌, inl, inr}
 use Rattle.kola_term.specs.Terms.{TermTree}
 use Rattle.kola_term.specs.Places.{children, nth, sub_at}
 use Rattle.kola_term.proofs.Inversions.{some_same, then_some}
@@ -41,17 +41,23 @@ module _ (t v : TermTree) where
 
   pub two_leads : (r : Bool) (a b : TermTree) (old mid new : List ℕ) → a ∷ b ∷ [] ≡ children t → (t ≡ v → ⊥) → LeadsBy 1 false a v old mid → LeadsBy 2 r b v mid new → Leads r t v old new
   two_leads true a b old mid new e h f l = (2 ∷ l.0, l.1 ∙ ap (λ z. z ++ 2 ∷ l.0) f.0, at_child 2 b l.0 (ap (nth 2) (sym e)) l.2)
-  two_leads false a b old mid new e h f l = (l.0 ∙ f.0, nowhere h (λ n c k q. elim (two_of n a b c (subst (λ l. nth n l ≡ Some c) (sym e) k)) [
-    | inl i ↦ subst (λ z. sub_at z q ≡ Some v → ⊥) i (f.1 q)
-    | inr i ↦ subst (λ z. sub_at z q ≡ Some v → ⊥) i (l.1 q)
-  ]))
+  two_leads false a b old mid new e h f l = (
+    l.0 ∙ f.0,
+    nowhere h (λ n c k q. elim (two_of n a b c (subst (λ l. nth n l ≡ Some c) (sym e) k)) [
+      | inl i ↦ subst (λ z. sub_at z q ≡ Some v → ⊥) i (f.1 q)
+      | inr i ↦ subst (λ z. sub_at z q ≡ Some v → ⊥) i (l.1 q)
+    ]),
+  )
 
   pub three_leads : (r : Bool) (a b d : TermTree) (old mid far new : List ℕ) → a ∷ b ∷ d ∷ [] ≡ children t → (t ≡ v → ⊥) → LeadsBy 1 false a v old mid → LeadsBy 2 false b v mid far → LeadsBy 3 r d v far new → Leads r t v old new
   three_leads true a b d old mid far new e h f g l = (3 ∷ l.0, l.1 ∙ ap (λ z. z ++ 3 ∷ l.0) (g.0 ∙ f.0), at_child 3 d l.0 (ap (nth 3) (sym e)) l.2)
-  three_leads false a b d old mid far new e h f g l = (l.0 ∙ (g.0 ∙ f.0), nowhere h (λ n c k q. elim (three_of n a b d c (subst (λ l. nth n l ≡ Some c) (sym e) k)) [
-    | inl i ↦ subst (λ z. sub_at z q ≡ Some v → ⊥) i (f.1 q)
-    | inr i ↦ elim i [
-      | inl j ↦ subst (λ z. sub_at z q ≡ Some v → ⊥) j (g.1 q)
-      | inr j ↦ subst (λ z. sub_at z q ≡ Some v → ⊥) j (l.1 q)
-    ]
-  ]))
+  three_leads false a b d old mid far new e h f g l = (
+    l.0 ∙ (g.0 ∙ f.0),
+    nowhere h (λ n c k q. elim (three_of n a b d c (subst (λ l. nth n l ≡ Some c) (sym e) k)) [
+      | inl i ↦ subst (λ z. sub_at z q ≡ Some v → ⊥) i (f.1 q)
+      | inr i ↦ elim i [
+        | inl j ↦ subst (λ z. sub_at z q ≡ Some v → ⊥) j (g.1 q)
+        | inr j ↦ subst (λ z. sub_at z q ≡ Some v → ⊥) j (l.1 q)
+      ]
+    ]),
+  )

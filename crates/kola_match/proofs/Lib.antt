@@ -16,3 +16,4 @@ pub mod LeadingLaws
 pub mod DemandLaws
 pub mod SpottingLaws
 pub mod MatchedLaws
+pub mod InstanceConditions

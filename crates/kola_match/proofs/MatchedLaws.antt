@@ -1,5 +1,5 @@
 -- What has been found of the sides, of the input type and of each variable is an instance, and each instance has it.
-use Rattle.std.proofs.Common.{◌≡◌, ◌↔◌, ℕ, zero, suc, Bool, true, false, refl, sym, ap, ◌∙◌, subst, List, [], ◌∷◌, take, Option, Some, None, ◌⊎◌, inl, inr}
+use Rattle.std.proofs.Common.{◌≡◌, ℕ, zero, suc, true, false, sym, ap, ◌∙◌, subst, List, [], ◌∷◌, take, Some, None, inl, inr}
 use Rattle.kola_values.specs.Types.{TypeTree}
 use Rattle.kola_values.specs.Databases.{Classes, look_up}
 use Rattle.kola_term.specs.Terms.{TermTree}
@@ -9,7 +9,7 @@ use Rattle.kola_match.specs.Substitutions.{Substitution, sub_type, inst, IsTyped
 use Rattle.kola_match.specs.Binds.{Binds, binds, Extends, Finds, substitution_of}
 use Rattle.kola_match.specs.Pairs.{Sides, AllGive}
 use Rattle.kola_match.specs.Occurring.{variable}
-use Rattle.kola_match.specs.Instances.{Instance, Decided, AllDeclared, AllDemand, AllFound, Spots}
+use Rattle.kola_match.specs.Instances.{Instance, Decided, AllDeclared, AllFound, Spots}
 use Rattle.kola_match.specs.Spotting.{IsOn, Spotted, AllTyped, AllPatternsTyped, FindsAll}
 use Rattle.kola_match.proofs.Closed.{AttributesClosed}
 use Rattle.kola_match.proofs.BindLaws.{found_extends}
@@ -68,6 +68,7 @@ module _ (S : Classes) (k : AttributesClosed S) (x vars : Context) (input T : Ty
       let s = substitution_of n in
       let p = (h.2 s).0 (found_extends n) in
       let q = (g s).0 p.0 in
-      let r = (f s).0 q.0 in
-      (record { typed = all_typed S k x vars input T s sides vars h.0 l r.1 p.1; input_is = q.1; gives = r.1 },
-        λ o (i : Instance S x vars input T sides o). (h.2 o).1 ((g o).1 ((f o).1 (subst (Extends o) (sym e) (nothing_extends o), i.gives), i.input_is), all_meet S k x vars input T o sides vars h.0 l i.gives i.typed i.input_is i.typed))
+      let r = (f s).0 q.0 in (
+        record { typed = all_typed S k x vars input T s sides vars h.0 l r.1 p.1; input_is = q.1; gives = r.1 },
+        λ o (i : Instance S x vars input T sides o). (h.2 o).1 ((g o).1 ((f o).1 (subst (Extends o) (sym e) (nothing_extends o), i.gives), i.input_is), all_meet S k x vars input T o sides vars h.0 l i.gives i.typed i.input_is i.typed),
+      )

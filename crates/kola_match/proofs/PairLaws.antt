@@ -1,5 +1,5 @@
 -- What the children of two nodes side by side say of the nodes.
-use Rattle.std.proofs.Common.{◌≡◌, ◌↔◌, ℕ, ◌+◌, ◌<◌, Bool, true, false, cond, ◌&&◌, refl, sym, ap, ap₂, ◌∙◌, subst, List, [], ◌∷◌, map, Option, Some, None, option_map, sum_by, arith}
+use Rattle.std.proofs.Common.{◌≡◌, ◌↔◌, ℕ, ◌+◌, Bool, true, false, cond, refl, sym, ap, ap₂, ◌∙◌, subst, List, [], ◌∷◌, map, Option, Some, None, option_map, sum_by, arith}
 use Rattle.kola_term.specs.Terms.{FunTree, FMeta, PredTree, PMeta, ConstTree, CMeta, TermTree, TermF, TermP, TermC}
 use Rattle.kola_term.specs.Places.{children}
 use Rattle.kola_term.specs.Counts.{nodes}

@@ -1,5 +1,5 @@
 -- The variables of a rule, taken one by one.
-use Rattle.std.proofs.Common.{◌≡◌, ◌↔◌, ℕ, zero, suc, ◌+◌, ◌<◌, ◌≤◌, Bool, true, false, refl, sym, ap, ◌∙◌, subst, List, [], ◌∷◌, ◌++◌, length, take, drop, map, get_or, arith}
+use Rattle.std.proofs.Common.{◌≡◌, ◌↔◌, ℕ, zero, suc, ◌+◌, ◌<◌, ◌≤◌, Bool, true, false, refl, sym, subst, List, [], ◌∷◌, ◌++◌, length, take, drop, get_or, arith}
 use Rattle.std.proofs.lemmas.List.{take_all}
 use Rattle.kola_core.specs.declared.name.Name.{Name}
 use Rattle.kola_core.proofs.Lists.{left_less, taken_more, length_seen}
@@ -44,9 +44,11 @@ module _ (S : Classes) (x : Context) (T : TypeTree) (sides : Sides) where
   more : (ms : List (Name × MetaTy)) (i : ℕ) (m : Name × MetaTy) (r : Bool) (old now next : Binds) → i < length ms → m ≡ get_or ms i m → FindsFirst (context_of ms) i old now → FindsOne S x T sides (meta_entry m) r now next
       → (es : Spots) × Spotted sides (take (i + 1) (context_of ms)) es × Finds r old next (AllDemand S x T es)
   more ms i m r old now next p e l f =
-      let es = l.0 ++ (meta_entry m, f.0) ∷ [] in
-      (es, subst (λ z. Spotted sides z es) (sym (taken_more meta_entry ms (context_of ms) i m refl p e)) (spotted_push (take i (context_of ms)) (meta_entry m) l.0 f.0 l.1 f.1),
-        finds_same r old next (λ s. AllDemand S x T l.0 s × DemandAt S x T (meta_entry m, f.0) s) (AllDemand S x T es) (demand_push l.0 (meta_entry m, f.0)) (finds_then r old now next (AllDemand S x T l.0) (DemandAt S x T (meta_entry m, f.0)) l.2 f.2))
+      let es = l.0 ++ (meta_entry m, f.0) ∷ [] in (
+        es,
+        subst (λ z. Spotted sides z es) (sym (taken_more meta_entry ms (context_of ms) i m refl p e)) (spotted_push (take i (context_of ms)) (meta_entry m) l.0 f.0 l.1 f.1),
+        finds_same r old next (λ s. AllDemand S x T l.0 s × DemandAt S x T (meta_entry m, f.0) s) (AllDemand S x T es) (demand_push l.0 (meta_entry m, f.0)) (finds_then r old now next (AllDemand S x T l.0) (DemandAt S x T (meta_entry m, f.0)) l.2 f.2),
+      )
 
   pub first_more : (ms : List (Name × MetaTy)) (i : ℕ) (m : Name × MetaTy) (old now next : Binds) → i < length ms → m ≡ get_or ms i m → FindsFirst (context_of ms) i old now → FindsOne S x T sides (meta_entry m) true now next → FindsFirst (context_of ms) (i + 1) old next
   first_more ms i m old now next p e l f = more ms i m true old now next p e l f

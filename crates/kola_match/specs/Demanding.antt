@@ -7,7 +7,6 @@ use Rattle.kola_values.specs.declared.ty.Ty.{Ty}
 use Rattle.kola_term.specs.Terms.{FunTree, ConstTree, TermTree, TermC}
 use Rattle.kola_term.specs.Typing.{Context, out, const_type}
 use Rattle.kola_term.specs.Places.{sub_at, place}
-use Rattle.kola_term.specs.PlaceAnswers.{IsConstant}
 use Rattle.kola_match.specs.Substitutions.{Substitution, sub_type}
 
 abbrev pub FunDemand : Classes → Context → TypeTree → TypeTree → FunTree → TypeTree → Substitution → Type 0

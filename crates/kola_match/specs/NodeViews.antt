@@ -1,5 +1,5 @@
 -- What stands behind references to names and parts.
-use Rattle.std.specs.Prelude.{ℕ, List, map}
+use Rattle.std.specs.Prelude.{ℕ, List}
 use Rattle.std.specs.Borrow.{Bor}
 use Rattle.kola_core.specs.declared.name.Name.{Name}
 use Rattle.kola_term.specs.Terms.{TermTree}

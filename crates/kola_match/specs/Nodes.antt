@@ -1,5 +1,5 @@
 -- When two nodes are alike but for their children, and which nodes are variables.
-use Rattle.std.specs.Prelude.{ℕ, Bool, true, false, cond, List}
+use Rattle.std.specs.Prelude.{Bool, true, false, cond}
 use Rattle.std.specs.Str.{bytes_eq}
 use Rattle.std.specs.Ordering.{is_eq, int_cmp}
 use Rattle.kola_values.specs.Values.{VSet, of_items}

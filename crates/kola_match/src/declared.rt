@@ -36,18 +36,37 @@ fn match_declared(
 ) -> Result<bool, Memory>
     requires typed { AllTyped schema.now (context_of ctx.now) (type_tree ty.now) (sides_of first second) }
     requires occurs { OccursOn (sides_of first second) (name.now, meta_tree meta.now) }
-    ensures { IfOk result (λ b. FindsOne schema.now (context_of ctx.now) (type_tree ty.now) (sides_of first.entry second.entry)
+    ensures { IfOk result (λ b. FindsOne schema.now (context_of ctx.now) (type_tree ty.now)
+        (sides_of first.entry second.entry)
         (name.now, meta_tree meta.now) b (binds_of found.old) (binds_of found.new)) }
 {
     let mut path = Vec::new(alloc);
     if find(first.pattern, name, meta, &mut path)? {
-        return match_variable(alloc, schema, ctx, meta, first.part, ty, path.as_slice(), found);
+        return match_variable(
+            alloc,
+            schema,
+            ctx,
+            meta,
+            first.part,
+            ty,
+            path.as_slice(),
+            found,
+        );
     }
     let Some(second) = second else {
         return Ok(false);
     };
     if find(second.pattern, name, meta, &mut path)? {
-        return match_variable(alloc, schema, ctx, meta, second.part, ty, path.as_slice(), found);
+        return match_variable(
+            alloc,
+            schema,
+            ctx,
+            meta,
+            second.part,
+            ty,
+            path.as_slice(),
+            found,
+        );
     }
     Ok(false)
 }
@@ -65,7 +84,8 @@ pub(crate) fn match_all_declared(
 ) -> Result<bool, Memory>
     requires typed { AllTyped schema.now (context_of ctx.now) (type_tree ty.now) (sides_of first second) }
     requires occur { AllOccurOn (sides_of first second) (context_of vars.now) }
-    ensures { IfOk result (λ b. FindsAll schema.now (context_of ctx.now) (type_tree ty.now) (sides_of first.entry second.entry)
+    ensures { IfOk result (λ b. FindsAll schema.now (context_of ctx.now) (type_tree ty.now)
+        (sides_of first.entry second.entry)
         (context_of vars.now) b (binds_of found.old) (binds_of found.new)) }
 {
     for (name, meta) in vars.as_slice() {

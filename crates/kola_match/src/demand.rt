@@ -32,7 +32,8 @@ fn input_of(
     path: &[u8],
 ) -> Result<Option<Ty>, Memory>
     requires { Typed schema.now (context_of ctx.now) (sub_tree part) (type_tree ty.now) }
-    ensures { IfOk result (λ o. InputOf schema.now (context_of ctx.now) (sub_tree part.entry) (type_tree ty.now) path.now o) }
+    ensures { IfOk result (λ o. InputOf schema.now (context_of ctx.now) (sub_tree part.entry)
+        (type_tree ty.now) path.now o) }
 {
     match input_at_part(alloc, schema, ctx, part, ty, path) {
         Ok(w) => Ok(Some(w)),
@@ -53,7 +54,8 @@ fn match_fun(
     found: &mut Found,
 ) -> Result<bool, Memory>
     ensures { IfOk result (λ b. Finds b (binds_of found.old) (binds_of found.new)
-        (FunDemand schema.now (context_of ctx.now) (type_tree input.now) (type_tree output.now) (fun_tree f.now) (type_tree w.now))) }
+        (FunDemand schema.now (context_of ctx.now) (type_tree input.now) (type_tree output.now) (fun_tree f.now)
+        (type_tree w.now))) }
 {
     if !match_type(input, w, found)? {
         return Ok(false);

@@ -21,7 +21,8 @@ fn is_variable(part: SubTerm, name: &Name, meta: &MetaTy) -> bool
     }
 }
 
-/// Whether the variable stands in the part. The path to a place where it does is put behind `path`, which else stays as it was.
+/// Whether the variable stands in the part. The path to a place where it does is put behind `path`, which else stays
+/// as it was.
 #[cycle(find)]
 pub(crate) fn find(
     part: SubTerm,
@@ -66,7 +67,8 @@ fn find_child(
     path: &mut Vec<u8>,
 ) -> Result<bool, Memory>
     ensures { IfOk result
-        (λ b. LeadsBy n b (sub_tree child.entry) (variable name.now (meta_tree meta.now)) path.old.items path.new.items) }
+        (λ b. LeadsBy n b (sub_tree child.entry) (variable name.now
+        (meta_tree meta.now)) path.old.items path.new.items) }
 {
     path.push(n)?;
     if find(child, name, meta, path)? {

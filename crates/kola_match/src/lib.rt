@@ -1,15 +1,20 @@
 //! Instances of rules: substitutions, when a rule holds, and how instances are found.
 #![tactic(auto)]
 
-mod facts;
 mod declared;
 mod demand;
+mod facts;
 mod find;
 mod found;
+mod instance;
 mod matched;
 mod matching;
 mod nodes;
 mod pairs;
 mod subst;
 
-pub use facts::{places_go_with_substitutions, typed_substitutions_keep_types};
+pub use facts::{
+    instances_of_one_term_agree, places_go_with_substitutions, typed_substitutions_keep_types,
+};
+pub use instance::{Tally, match_at, match_both};
+pub use subst::{Subst, instantiate};

@@ -63,10 +63,12 @@ pub(crate) fn matched<'t>(
     ty: &Ty,
 ) -> Result<Option<Found<'t>>, Memory>
     requires typed { AllTyped schema.now (context_of ctx.now) (type_tree ty.now) (sides_of first second) }
-    requires patterns { AllPatternsTyped schema.now (context_of vars.now) (type_tree input.now) (sides_of first second) }
+    requires patterns { AllPatternsTyped schema.now (context_of vars.now) (type_tree input.now)
+        (sides_of first second) }
     requires occur { AllOccurOn (sides_of first second) (context_of vars.now) }
     requires declared { AllDeclared (context_of vars.now) (context_of vars.now) }
-    ensures { IfOk result (λ o. Decided schema.now (context_of ctx.now) (context_of vars.now) (type_tree input.now) (type_tree ty.now)
+    ensures { IfOk result (λ o. Decided schema.now (context_of ctx.now) (context_of vars.now)
+        (type_tree input.now) (type_tree ty.now)
         (sides_of first.entry second.entry) (option_map binds_of o)) }
 {
     if !may_match_sides(first, second) {

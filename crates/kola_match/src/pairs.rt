@@ -25,7 +25,9 @@ fn zipped<'p, 't>(ours: Children<'p>, theirs: Children<'t>) -> Option<Pairs<'p, 
         (Children::Leaf, Children::Leaf) => Some(Pairs::Leaf),
         (Children::One(a), Children::One(b)) => Some(Pairs::One(a, b)),
         (Children::Two(a, c), Children::Two(b, d)) => Some(Pairs::Two(a, b, c, d)),
-        (Children::Three(a, c, e), Children::Three(b, d, f)) => Some(Pairs::Three(a, b, c, d, e, f)),
+        (Children::Three(a, c, e), Children::Three(b, d, f)) => Some(Pairs::Three(
+            a, b, c, d, e, f,
+        )),
         _ => None,
     }
 }

@@ -163,7 +163,11 @@ fn fun_under(alloc: Global, f: &Fun, s: &Subst) -> Result<Fun, Memory>
         Fun::Times(f, g) => Ok(Fun::Times(boxed_fun(alloc, f, s)?, boxed_fun(alloc, g, s)?)),
         Fun::K(c) => Ok(Fun::K(const_under(c, s)?)),
         Fun::C(f, c) => Ok(Fun::C(boxed_fun(alloc, f, s)?, const_under(c, s)?)),
-        Fun::If(p, f, g) => Ok(Fun::If(boxed_pred(alloc, p, s)?, boxed_fun(alloc, f, s)?, boxed_fun(alloc, g, s)?)),
+        Fun::If(p, f, g) => Ok(Fun::If(
+            boxed_pred(alloc, p, s)?,
+            boxed_fun(alloc, f, s)?,
+            boxed_fun(alloc, g, s)?,
+        )),
         Fun::Iterate(p, f) => Ok(Fun::Iterate(boxed_pred(alloc, p, s)?, boxed_fun(alloc, f, s)?)),
         Fun::Iter(p, f) => Ok(Fun::Iter(boxed_pred(alloc, p, s)?, boxed_fun(alloc, f, s)?)),
         Fun::Join(p, f) => Ok(Fun::Join(boxed_pred(alloc, p, s)?, boxed_fun(alloc, f, s)?)),
@@ -216,7 +220,8 @@ fn boxed_pred(alloc: Global, p: &Pred, s: &Subst) -> Result<Box<Pred>, Memory>
     Ok(boxed)
 }
 
-/// A side of a rule under a substitution that was found. A variable of which the substitution knows nothing becomes `id`, `eq`
+/// A side of a rule under a substitution that was found. A variable of which the substitution knows nothing becomes
+/// `id`, `eq`
 /// or `true`, by its kind.
 pub fn instantiate(alloc: Global, side: &Term, s: &Subst) -> Result<Term, Memory>
     ensures { IfOk result (λ r. term_tree r ≡ inst (substitution_of (found_binds s.now)) (term_tree side.now)) }

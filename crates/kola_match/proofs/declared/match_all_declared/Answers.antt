@@ -1,4 +1,4 @@
-use Rattle.std.proofs.Common.{◌≡◌, ◌<◌, ◌≤◌, ◌+◌, length, get_or, true, false, subst, arith}
+use Rattle.std.proofs.Common.{◌≡◌, ◌<◌, ◌≤◌, length, get_or, subst, arith}
 use Rattle.kola_values.specs.Views.{type_tree}
 use Rattle.kola_term.specs.ContextView.{context_of, meta_entry}
 use Rattle.kola_match.specs.FoundViews.{binds_of}

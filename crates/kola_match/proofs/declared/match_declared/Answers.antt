@@ -1,11 +1,10 @@
-use Rattle.std.proofs.Common.{◌≡◌, Some, true, refl, sym, ap, subst, ◌∙◌, ◌++◌, inl, inr}
+use Rattle.std.proofs.Common.{refl, sym, ap, subst, ◌∙◌, ◌++◌, inl, inr}
 use Rattle.kola_term.specs.ContextView.{meta_tree}
 use Rattle.kola_term.specs.Parts.{sub_tree}
 use Rattle.kola_term.specs.Places.{sub_at}
 use Rattle.kola_match.specs.Occurring.{variable}
 use Rattle.kola_match.specs.Leading.{Leads}
-use Rattle.kola_match.specs.Spotting.{IsOn, second_of, side_of}
-use Rattle.kola_match.specs.Pairs.{Sides}
+use Rattle.kola_match.specs.Spotting.{IsOn, second_of}
 use Rattle.kola_match.proofs.BindLaws.{if_ok}
 use Rattle.kola_match.proofs.declared.match_declared.Goals as goal
 

@@ -1,4 +1,4 @@
-use Rattle.std.proofs.Common.{◌≡◌, Some, sym, ap, subst, ◌∙◌}
+use Rattle.std.proofs.Common.{Some, sym, ap, subst, ◌∙◌}
 use Rattle.kola_values.specs.Views.{type_tree}
 use Rattle.kola_term.specs.ContextView.{context_of, meta_tree}
 use Rattle.kola_term.specs.TermView.{fun_tree, pred_tree, const_tree}

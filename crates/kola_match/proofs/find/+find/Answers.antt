@@ -1,4 +1,4 @@
-use Rattle.std.proofs.Common.{◌≡◌, true, false, subst}
+use Rattle.std.proofs.Common.{subst}
 use Rattle.kola_term.specs.ContextView.{meta_tree}
 use Rattle.kola_term.specs.Parts.{sub_tree}
 use Rattle.kola_match.specs.Occurring.{variable}

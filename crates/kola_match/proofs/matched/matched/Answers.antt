@@ -1,4 +1,4 @@
-use Rattle.std.proofs.Common.{◌≡◌, true, false, [], map, subst}
+use Rattle.std.proofs.Common.{◌≡◌, [], map, subst}
 use Rattle.kola_values.specs.Views.{type_tree, type_entry}
 use Rattle.kola_term.specs.ContextView.{context_of}
 use Rattle.kola_match.specs.Substitutions.{sub_type}

@@ -1,4 +1,4 @@
-use Rattle.std.proofs.Common.{◌≡◌, ◌<◌, true, false, length, map, refl, sym, ap, ap₂, subst, ◌∙◌, arith}
+use Rattle.std.proofs.Common.{◌≡◌, map, refl, sym, ap, subst, ◌∙◌, arith}
 use Rattle.kola_core.proofs.Lists.{length_seen}
 use Rattle.kola_values.specs.Types.{TSet, TPair, TStruct, of_type_fields}
 use Rattle.kola_values.specs.Views.{type_tree, type_entry}

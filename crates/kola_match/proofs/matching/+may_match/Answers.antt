@@ -1,10 +1,7 @@
-use Rattle.std.proofs.Common.{◌≡◌, Some, None, [], ◌∷◌, sym, ap, subst, ◌∙◌, arith}
+use Rattle.std.proofs.Common.{Some, [], ◌∷◌, sym, ap, ◌∙◌, arith}
 use Rattle.kola_term.specs.Parts.{sub_tree}
-use Rattle.kola_match.specs.Substitutions.{inst}
 use Rattle.kola_match.specs.Pairs.{pair_trees}
-use Rattle.kola_match.specs.Binds.{Finds}
-use Rattle.kola_match.specs.FoundViews.{binds_of}
-use Rattle.kola_match.proofs.PairLaws.{one_nodes, two_nodes, three_nodes, gives, gives_none, variable_is}
+use Rattle.kola_match.proofs.PairLaws.{one_nodes, two_nodes, three_nodes, gives, gives_none}
 use Rattle.kola_match.proofs.matching.+may_match.Goals as goal
 
 pub may_match-requires : goal.may_match-requires

@@ -1,6 +1,6 @@
-use Rattle.std.proofs.Common.{◌≡◌, [], ◌∷◌, ◌++◌, take, map, refl, sym, ap, ◌∙◌}
-use Rattle.std.proofs.lemmas.List.{map_push, take_all}
-use Rattle.kola_core.proofs.Lists.{taken_more, length_seen}
+use Rattle.std.proofs.Common.{[], ◌∷◌, ◌++◌, map, refl, sym, ap, ◌∙◌}
+use Rattle.std.proofs.lemmas.List.{map_push}
+use Rattle.kola_core.proofs.Lists.{taken_more}
 use Rattle.kola_values.specs.Views.{type_entry}
 use Rattle.kola_match.proofs.subst.copied_types.Goals as goal
 

@@ -20,6 +20,6 @@ returns c =
     let n = c.args.name.now in
     let t = sub_tree c.args.part in
     let pushed = ap (map part_entry) c.in_ok-push.ensures.items
-          ∙ map_push part_entry c.args.self.now.parts.items (c.in_ok-copy.field-0, c.args.part)
-          ∙ ap (λ m. es ++ (m, t) ∷ []) c.in_ok-copy.ensures in
+    ∙ map_push part_entry c.args.self.now.parts.items (c.in_ok-copy.field-0, c.args.part)
+    ∙ ap (λ m. es ++ (m, t) ∷ []) c.in_ok-copy.ensures in
     subst (λ l. Finds true (binds ts es) (binds ts l) (λ s. inst s (variable_like t n) ≡ t)) (sym pushed) (taken_new ts es n t c.in_default.ensures)

@@ -17,6 +17,6 @@ returns c =
     let n = c.args.name.now in
     let t = type_tree c.args.t.now in
     let pushed = ap (map type_entry) c.in_ok-push.ensures.items
-          ∙ map_push type_entry c.args.self.now.types.items (c.in_ok-name.name, c.in_ok-t.t)
-          ∙ (λ i. ts ++ (c.in_ok-name.ensures i, c.in_ok-t.ensures i) ∷ []) in
+    ∙ map_push type_entry c.args.self.now.types.items (c.in_ok-name.name, c.in_ok-t.t)
+    ∙ (λ i. ts ++ (c.in_ok-name.ensures i, c.in_ok-t.ensures i) ∷ []) in
     subst (λ l. Finds true (binds ts es) (binds l es) (λ s. s.types n ≡ t)) (sym pushed) (type_new ts es n t c.in_default.ensures)

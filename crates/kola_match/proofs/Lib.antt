@@ -7,3 +7,4 @@ pub mod Occurring
 mod SubstitutionExamples
 mod HoldingExamples
 pub mod RuleTested
+mod RuleOkExamples

@@ -23,7 +23,7 @@ pub fn choice(m: Maker, rules: &mut Vec<Rule>) -> Result<(), Memory>
 
 /// `if(KP(true), f, g) = f`
 fn if_true(m: Maker) -> MadeRule
-    ensures { MakesRule rule_tree result if_true }
+    ensures { MakesRule result if_true }
 {
     let vars = m.fun_var(
         "f",
@@ -39,7 +39,7 @@ fn if_true(m: Maker) -> MadeRule
 
 /// `if(KP(false), f, g) = g`
 fn if_false(m: Maker) -> MadeRule
-    ensures { MakesRule rule_tree result if_false }
+    ensures { MakesRule result if_false }
 {
     let vars = m.fun_var(
         "f",
@@ -55,7 +55,7 @@ fn if_false(m: Maker) -> MadeRule
 
 /// `if(p, f, f) = f`
 fn if_same(m: Maker) -> MadeRule
-    ensures { MakesRule rule_tree result if_same }
+    ensures { MakesRule result if_same }
 {
     let vars = m.pred_var(
         "p",
@@ -70,7 +70,7 @@ fn if_same(m: Maker) -> MadeRule
 
 /// `if(~p, f, g) = if(p, g, f)`
 fn if_not(m: Maker) -> MadeRule
-    ensures { MakesRule rule_tree result if_not }
+    ensures { MakesRule result if_not }
 {
     let vars = m.pred_var(
         "p",
@@ -90,7 +90,7 @@ fn if_not(m: Maker) -> MadeRule
 
 /// `(if(p, f, g) o h) = if((p @ h), (f o h), (g o h))`
 fn if_comp(m: Maker) -> MadeRule
-    ensures { MakesRule rule_tree result if_comp }
+    ensures { MakesRule result if_comp }
 {
     let vars = m.pred_var(
         "p",

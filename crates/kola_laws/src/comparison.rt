@@ -24,7 +24,7 @@ pub fn comparison(m: Maker, rules: &mut Vec<Rule>) -> Result<(), Memory>
 
 /// `inv(p) = (p @ <snd, fst>)`
 fn inv_def(m: Maker) -> MadeRule
-    ensures { MakesRule rule_tree result inv_def }
+    ensures { MakesRule result inv_def }
 {
     let vars = m.pred_var("p", m.pair_type(m.ty("b"), m.ty("a")), m.no_vars());
     let input = m.pair_type(m.ty("a"), m.ty("b"));
@@ -35,7 +35,7 @@ fn inv_def(m: Maker) -> MadeRule
 
 /// `CP(p, x) = (p @ <K(x), id>)`
 fn cp_def(m: Maker) -> MadeRule
-    ensures { MakesRule rule_tree result cp_def }
+    ensures { MakesRule result cp_def }
 {
     let vars = m.pred_var(
         "p",
@@ -50,7 +50,7 @@ fn cp_def(m: Maker) -> MadeRule
 
 /// `(eq @ <f, f>) = KP(true)`
 fn eq_self(m: Maker) -> MadeRule
-    ensures { MakesRule rule_tree result eq_self }
+    ensures { MakesRule result eq_self }
 {
     let vars = m.fun_var("f", m.ty("a"), m.ty("b"), m.no_vars());
     let input = m.ty("a");
@@ -61,7 +61,7 @@ fn eq_self(m: Maker) -> MadeRule
 
 /// `(eq @ <snd, fst>) = eq`
 fn eq_comm(m: Maker) -> MadeRule
-    ensures { MakesRule rule_tree result eq_comm }
+    ensures { MakesRule result eq_comm }
 {
     let vars = m.no_vars();
     let input = m.pair_type(m.ty("a"), m.ty("a"));
@@ -72,7 +72,7 @@ fn eq_comm(m: Maker) -> MadeRule
 
 /// `~le = (lt @ <snd, fst>)`
 fn not_le(m: Maker) -> MadeRule
-    ensures { MakesRule rule_tree result not_le }
+    ensures { MakesRule result not_le }
 {
     let vars = m.no_vars();
     let input = m.pair_type(m.ty("a"), m.ty("a"));
@@ -83,7 +83,7 @@ fn not_le(m: Maker) -> MadeRule
 
 /// `le = (lt | eq)`
 fn le_or(m: Maker) -> MadeRule
-    ensures { MakesRule rule_tree result le_or }
+    ensures { MakesRule result le_or }
 {
     let vars = m.no_vars();
     let input = m.pair_type(m.ty("a"), m.ty("a"));

@@ -2,7 +2,9 @@
 
 ghost use Rattle.std.specs.Prelude.{◌≡◌, ◌++◌, map, OnOk};
 ghost use Rattle.kola_rule.specs.RuleViews.{rule_tree};
-ghost use Rattle.kola_laws.specs.Composition.{composition, id_left, id_right, assoc, fst_pair, snd_pair, pair_eta, pair_id, pair_comp, times_def, times_pair, fst_times, snd_times, const_comp, curry_def};
+ghost use Rattle.kola_laws.specs.Composition.{composition, id_left, id_right, assoc, fst_pair, snd_pair, pair_eta};
+ghost use Rattle.kola_laws.specs.Composition.{pair_id, pair_comp, times_def, times_pair, fst_times, snd_times};
+ghost use Rattle.kola_laws.specs.Composition.{const_comp, curry_def};
 ghost use Rattle.kola_laws.specs.Making.{MakesRule};
 
 use crate::maker::{MadeRule, Maker, add};
@@ -32,7 +34,7 @@ pub fn composition(m: Maker, rules: &mut Vec<Rule>) -> Result<(), Memory>
 
 /// `(id o f) = f`
 fn id_left(m: Maker) -> MadeRule
-    ensures { MakesRule rule_tree result id_left }
+    ensures { MakesRule result id_left }
 {
     let vars = m.fun_var("f", m.ty("a"), m.ty("b"), m.no_vars());
     let input = m.ty("a");
@@ -43,7 +45,7 @@ fn id_left(m: Maker) -> MadeRule
 
 /// `(f o id) = f`
 fn id_right(m: Maker) -> MadeRule
-    ensures { MakesRule rule_tree result id_right }
+    ensures { MakesRule result id_right }
 {
     let vars = m.fun_var("f", m.ty("a"), m.ty("b"), m.no_vars());
     let input = m.ty("a");
@@ -54,7 +56,7 @@ fn id_right(m: Maker) -> MadeRule
 
 /// `((f o g) o h) = (f o (g o h))`
 fn assoc(m: Maker) -> MadeRule
-    ensures { MakesRule rule_tree result assoc }
+    ensures { MakesRule result assoc }
 {
     let vars = m.fun_var(
         "f",
@@ -75,7 +77,7 @@ fn assoc(m: Maker) -> MadeRule
 
 /// `(fst o <f, g>) = f`
 fn fst_pair(m: Maker) -> MadeRule
-    ensures { MakesRule rule_tree result fst_pair }
+    ensures { MakesRule result fst_pair }
 {
     let vars = m.fun_var(
         "f",
@@ -91,7 +93,7 @@ fn fst_pair(m: Maker) -> MadeRule
 
 /// `(snd o <f, g>) = g`
 fn snd_pair(m: Maker) -> MadeRule
-    ensures { MakesRule rule_tree result snd_pair }
+    ensures { MakesRule result snd_pair }
 {
     let vars = m.fun_var(
         "f",
@@ -107,7 +109,7 @@ fn snd_pair(m: Maker) -> MadeRule
 
 /// `<(fst o f), (snd o f)> = f`
 fn pair_eta(m: Maker) -> MadeRule
-    ensures { MakesRule rule_tree result pair_eta }
+    ensures { MakesRule result pair_eta }
 {
     let vars = m.fun_var(
         "f",
@@ -123,7 +125,7 @@ fn pair_eta(m: Maker) -> MadeRule
 
 /// `<fst, snd> = id`
 fn pair_id(m: Maker) -> MadeRule
-    ensures { MakesRule rule_tree result pair_id }
+    ensures { MakesRule result pair_id }
 {
     let vars = m.no_vars();
     let input = m.pair_type(m.ty("a"), m.ty("b"));
@@ -134,7 +136,7 @@ fn pair_id(m: Maker) -> MadeRule
 
 /// `(<f, g> o h) = <(f o h), (g o h)>`
 fn pair_comp(m: Maker) -> MadeRule
-    ensures { MakesRule rule_tree result pair_comp }
+    ensures { MakesRule result pair_comp }
 {
     let vars = m.fun_var(
         "f",
@@ -158,7 +160,7 @@ fn pair_comp(m: Maker) -> MadeRule
 
 /// `(f * g) = <(f o fst), (g o snd)>`
 fn times_def(m: Maker) -> MadeRule
-    ensures { MakesRule rule_tree result times_def }
+    ensures { MakesRule result times_def }
 {
     let vars = m.fun_var(
         "f",
@@ -174,7 +176,7 @@ fn times_def(m: Maker) -> MadeRule
 
 /// `((f * g) o <h, k>) = <(f o h), (g o k)>`
 fn times_pair(m: Maker) -> MadeRule
-    ensures { MakesRule rule_tree result times_pair }
+    ensures { MakesRule result times_pair }
 {
     let vars = m.fun_var(
         "f",
@@ -206,7 +208,7 @@ fn times_pair(m: Maker) -> MadeRule
 
 /// `(fst o (f * g)) = (f o fst)`
 fn fst_times(m: Maker) -> MadeRule
-    ensures { MakesRule rule_tree result fst_times }
+    ensures { MakesRule result fst_times }
 {
     let vars = m.fun_var(
         "f",
@@ -222,7 +224,7 @@ fn fst_times(m: Maker) -> MadeRule
 
 /// `(snd o (f * g)) = (g o snd)`
 fn snd_times(m: Maker) -> MadeRule
-    ensures { MakesRule rule_tree result snd_times }
+    ensures { MakesRule result snd_times }
 {
     let vars = m.fun_var(
         "f",
@@ -238,7 +240,7 @@ fn snd_times(m: Maker) -> MadeRule
 
 /// `(K(x) o f) = K(x)`
 fn const_comp(m: Maker) -> MadeRule
-    ensures { MakesRule rule_tree result const_comp }
+    ensures { MakesRule result const_comp }
 {
     let vars = m.fun_var(
         "f",
@@ -254,7 +256,7 @@ fn const_comp(m: Maker) -> MadeRule
 
 /// `C(f, x) = (f o <K(x), id>)`
 fn curry_def(m: Maker) -> MadeRule
-    ensures { MakesRule rule_tree result curry_def }
+    ensures { MakesRule result curry_def }
 {
     let vars = m.fun_var(
         "f",

@@ -12,8 +12,8 @@ pub fn every_law_holds()
     ensures { (S : Classes) → Each (Holds S) laws }
 {}
 
-/// Each law is well typed under every schema: its variables have distinct names and stand on a side, its conditions name
-/// functions, and its sides fit at the input type, with one output type.
+/// Each law is well typed under every schema: its variables have distinct names and stand on a side, its conditions
+/// name functions, and its sides fit at the input type, with one output type.
 pub fn every_law_is_well_typed()
     ensures { (S : Classes) → Each (RuleOk S) laws }
 {}

@@ -22,7 +22,7 @@ pub fn injectivity(m: Maker, rules: &mut Vec<Rule>) -> Result<(), Memory>
 
 /// `(eq @ (f * f)) = eq`
 fn eq_inj(m: Maker) -> MadeRule
-    ensures { MakesRule rule_tree result eq_inj }
+    ensures { MakesRule result eq_inj }
 {
     let vars = m.fun_var("f", m.ty("a"), m.ty("b"), m.no_vars());
     let input = m.pair_type(m.ty("a"), m.ty("a"));
@@ -33,7 +33,7 @@ fn eq_inj(m: Maker) -> MadeRule
 
 /// `(in @ (f * iterate(KP(true), f))) = in`
 fn in_inj(m: Maker) -> MadeRule
-    ensures { MakesRule rule_tree result in_inj }
+    ensures { MakesRule result in_inj }
 {
     let vars = m.fun_var("f", m.ty("a"), m.ty("b"), m.no_vars());
     let input = m.pair_type(m.ty("a"), m.set(m.ty("a")));
@@ -47,7 +47,7 @@ fn in_inj(m: Maker) -> MadeRule
 
 /// `(iterate(KP(true), f) o isect) = (isect o (iterate(KP(true), f) * iterate(KP(true), f)))`
 fn isect_inj(m: Maker) -> MadeRule
-    ensures { MakesRule rule_tree result isect_inj }
+    ensures { MakesRule result isect_inj }
 {
     let vars = m.fun_var("f", m.ty("a"), m.ty("b"), m.no_vars());
     let input = m.pair_type(m.set(m.ty("a")), m.set(m.ty("a")));
@@ -64,7 +64,7 @@ fn isect_inj(m: Maker) -> MadeRule
 
 /// `(iterate(KP(true), f) o minus) = (minus o (iterate(KP(true), f) * iterate(KP(true), f)))`
 fn minus_inj(m: Maker) -> MadeRule
-    ensures { MakesRule rule_tree result minus_inj }
+    ensures { MakesRule result minus_inj }
 {
     let vars = m.fun_var("f", m.ty("a"), m.ty("b"), m.no_vars());
     let input = m.pair_type(m.set(m.ty("a")), m.set(m.ty("a")));

@@ -2,7 +2,8 @@
 
 ghost use Rattle.std.specs.Prelude.{◌≡◌, ◌++◌, map, OnOk};
 ghost use Rattle.kola_rule.specs.RuleViews.{rule_tree};
-ghost use Rattle.kola_laws.specs.Iteration.{iteration, iterate_id, iterate_iterate, iter_snd, iter_iter, iter_env, iter_const, flat_iterate, flat_flat, flat_iter, iterate_iter};
+ghost use Rattle.kola_laws.specs.Iteration.{iteration, iterate_id, iterate_iterate, iter_snd, iter_iter, iter_env};
+ghost use Rattle.kola_laws.specs.Iteration.{iter_const, flat_iterate, flat_flat, flat_iter, iterate_iter};
 ghost use Rattle.kola_laws.specs.Making.{MakesRule};
 
 use crate::maker::{MadeRule, Maker, add};
@@ -28,7 +29,7 @@ pub fn iteration(m: Maker, rules: &mut Vec<Rule>) -> Result<(), Memory>
 
 /// `iterate(KP(true), id) = id`
 fn iterate_id(m: Maker) -> MadeRule
-    ensures { MakesRule rule_tree result iterate_id }
+    ensures { MakesRule result iterate_id }
 {
     let vars = m.no_vars();
     let input = m.set(m.ty("a"));
@@ -39,7 +40,7 @@ fn iterate_id(m: Maker) -> MadeRule
 
 /// `(iterate(p, f) o iterate(q, g)) = iterate((q & (p @ g)), (f o g))`
 fn iterate_iterate(m: Maker) -> MadeRule
-    ensures { MakesRule rule_tree result iterate_iterate }
+    ensures { MakesRule result iterate_iterate }
 {
     let vars = m.pred_var(
         "p",
@@ -69,7 +70,7 @@ fn iterate_iterate(m: Maker) -> MadeRule
 
 /// `iter((p @ snd), (f o snd)) = (iterate(p, f) o snd)`
 fn iter_snd(m: Maker) -> MadeRule
-    ensures { MakesRule rule_tree result iter_snd }
+    ensures { MakesRule result iter_snd }
 {
     let vars = m.pred_var(
         "p",
@@ -84,7 +85,7 @@ fn iter_snd(m: Maker) -> MadeRule
 
 /// `(iter(p, f) o <fst, iter(q, g)>) = iter((q & (p @ <fst, g>)), (f o <fst, g>))`
 fn iter_iter(m: Maker) -> MadeRule
-    ensures { MakesRule rule_tree result iter_iter }
+    ensures { MakesRule result iter_iter }
 {
     let vars = m.pred_var(
         "p",
@@ -119,7 +120,7 @@ fn iter_iter(m: Maker) -> MadeRule
 
 /// `(iter(p, f) o (h * id)) = iter((p @ (h * id)), (f o (h * id)))`
 fn iter_env(m: Maker) -> MadeRule
-    ensures { MakesRule rule_tree result iter_env }
+    ensures { MakesRule result iter_env }
 {
     let vars = m.pred_var(
         "p",
@@ -142,7 +143,7 @@ fn iter_env(m: Maker) -> MadeRule
 
 /// `(iter(p, f) o <K(x), g>) = (iterate((p @ <K(x), id>), (f o <K(x), id>)) o g)`
 fn iter_const(m: Maker) -> MadeRule
-    ensures { MakesRule rule_tree result iter_const }
+    ensures { MakesRule result iter_const }
 {
     let vars = m.pred_var(
         "p",
@@ -175,7 +176,7 @@ fn iter_const(m: Maker) -> MadeRule
 
 /// `(flat o iterate(KP(true), iterate(p, f))) = (iterate(p, f) o flat)`
 fn flat_iterate(m: Maker) -> MadeRule
-    ensures { MakesRule rule_tree result flat_iterate }
+    ensures { MakesRule result flat_iterate }
 {
     let vars = m.pred_var(
         "p",
@@ -193,7 +194,7 @@ fn flat_iterate(m: Maker) -> MadeRule
 
 /// `(flat o flat) = (flat o iterate(KP(true), flat))`
 fn flat_flat(m: Maker) -> MadeRule
-    ensures { MakesRule rule_tree result flat_flat }
+    ensures { MakesRule result flat_flat }
 {
     let vars = m.no_vars();
     let input = m.set(m.set(m.set(m.ty("a"))));
@@ -204,7 +205,7 @@ fn flat_flat(m: Maker) -> MadeRule
 
 /// `(flat o iter(KP(true), iter(p, f))) = (iter(p, f) o <fst, (flat o snd)>)`
 fn flat_iter(m: Maker) -> MadeRule
-    ensures { MakesRule rule_tree result flat_iter }
+    ensures { MakesRule result flat_iter }
 {
     let vars = m.pred_var(
         "p",
@@ -230,7 +231,7 @@ fn flat_iter(m: Maker) -> MadeRule
 
 /// `(iterate(q, g) o iter(p, f)) = iter((p & (q @ f)), (g o f))`
 fn iterate_iter(m: Maker) -> MadeRule
-    ensures { MakesRule rule_tree result iterate_iter }
+    ensures { MakesRule result iterate_iter }
 {
     let vars = m.pred_var(
         "p",

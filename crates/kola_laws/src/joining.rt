@@ -2,7 +2,8 @@
 
 ghost use Rattle.std.specs.Prelude.{◌≡◌, ◌++◌, map, OnOk};
 ghost use Rattle.kola_rule.specs.RuleViews.{rule_tree};
-ghost use Rattle.kola_laws.specs.Joining.{joining, join_def, join_comm, join_left, join_right, join_select_left, join_select_right, iterate_join, join_isect};
+ghost use Rattle.kola_laws.specs.Joining.{joining, join_def, join_comm, join_left, join_right, join_select_left};
+ghost use Rattle.kola_laws.specs.Joining.{join_select_right, iterate_join, join_isect};
 ghost use Rattle.kola_laws.specs.Making.{MakesRule};
 
 use crate::maker::{MadeRule, Maker, add};
@@ -26,7 +27,7 @@ pub fn joining(m: Maker, rules: &mut Vec<Rule>) -> Result<(), Memory>
 
 /// `join(p, f) = (flat o (iter(KP(true), (iter(p, f) o <snd, fst>)) o <snd, fst>))`
 fn join_def(m: Maker) -> MadeRule
-    ensures { MakesRule rule_tree result join_def }
+    ensures { MakesRule result join_def }
 {
     let vars = m.pred_var(
         "p",
@@ -55,7 +56,7 @@ fn join_def(m: Maker) -> MadeRule
 
 /// `join(p, f) = (join((p @ <snd, fst>), (f o <snd, fst>)) o <snd, fst>)`
 fn join_comm(m: Maker) -> MadeRule
-    ensures { MakesRule rule_tree result join_comm }
+    ensures { MakesRule result join_comm }
 {
     let vars = m.pred_var(
         "p",
@@ -81,7 +82,7 @@ fn join_comm(m: Maker) -> MadeRule
 
 /// `(join(p, f) o (iterate(q, g) * id)) = join(((q @ fst) & (p @ (g * id))), (f o (g * id)))`
 fn join_left(m: Maker) -> MadeRule
-    ensures { MakesRule rule_tree result join_left }
+    ensures { MakesRule result join_left }
 {
     let vars = m.pred_var(
         "p",
@@ -114,7 +115,7 @@ fn join_left(m: Maker) -> MadeRule
 
 /// `(join(p, f) o (id * iterate(q, g))) = join(((q @ snd) & (p @ (id * g))), (f o (id * g)))`
 fn join_right(m: Maker) -> MadeRule
-    ensures { MakesRule rule_tree result join_right }
+    ensures { MakesRule result join_right }
 {
     let vars = m.pred_var(
         "p",
@@ -147,7 +148,7 @@ fn join_right(m: Maker) -> MadeRule
 
 /// `join((p & (q @ fst)), f) = (join(p, f) o (iterate(q, id) * id))`
 fn join_select_left(m: Maker) -> MadeRule
-    ensures { MakesRule rule_tree result join_select_left }
+    ensures { MakesRule result join_select_left }
 {
     let vars = m.pred_var(
         "p",
@@ -170,7 +171,7 @@ fn join_select_left(m: Maker) -> MadeRule
 
 /// `join((p & (q @ snd)), f) = (join(p, f) o (id * iterate(q, id)))`
 fn join_select_right(m: Maker) -> MadeRule
-    ensures { MakesRule rule_tree result join_select_right }
+    ensures { MakesRule result join_select_right }
 {
     let vars = m.pred_var(
         "p",
@@ -193,7 +194,7 @@ fn join_select_right(m: Maker) -> MadeRule
 
 /// `(iterate(q, g) o join(p, f)) = join((p & (q @ f)), (g o f))`
 fn iterate_join(m: Maker) -> MadeRule
-    ensures { MakesRule rule_tree result iterate_join }
+    ensures { MakesRule result iterate_join }
 {
     let vars = m.pred_var(
         "p",
@@ -223,7 +224,7 @@ fn iterate_join(m: Maker) -> MadeRule
 
 /// `join(eq, fst) = isect`
 fn join_isect(m: Maker) -> MadeRule
-    ensures { MakesRule rule_tree result join_isect }
+    ensures { MakesRule result join_isect }
 {
     let vars = m.no_vars();
     let input = m.pair_type(m.set(m.ty("a")), m.set(m.ty("a")));

@@ -1,12 +1,15 @@
-//! Parts of the laws, made of what was made before. Each is handed the answers for its parts, so that no part is in hand
-//! where memory is wanted.
+//! Parts of the laws, made of what was made before. Each is handed the answers for its parts, so that no part is in
+//! hand where memory is wanted.
 
 ghost use Rattle.std.specs.Prelude.{◌≡◌, List, [], ◌∷◌, ◌++◌, map, IfOk, OnOk};
 ghost use Rattle.kola_values.specs.Types.{TypeTree, TVar, TSet, TPair};
-ghost use Rattle.kola_term.specs.Terms.{ConstTree, CMeta, FunTree, FId, FFst, FSnd, FFlat, FUnion, FIsect, FMinus, FComp, FPair, FTimes, FK, FC, FIf, FIterate, FIter, FJoin, FNest, FUnnest, FMeta, PredTree, PEq, PLt, PLe, PMember, PAt, PAnd, POr, PNot, PInv, PKP, PCP, PEx, PFa, PMeta, TermF, TermP};
-ghost use Rattle.kola_term.specs.TermView.{const_tree, fun_tree, pred_tree};
+ghost use Rattle.kola_term.specs.Terms.{FId, FFst, FSnd, FFlat, FUnion, FIsect, FMinus, FComp, FPair, FTimes};
+ghost use Rattle.kola_term.specs.Terms.{FK, FC, FIf};
+ghost use Rattle.kola_term.specs.Terms.{FunTree, FIterate, FIter, FJoin, FNest, FUnnest, FMeta, ConstTree, CMeta};
+ghost use Rattle.kola_term.specs.Terms.{PredTree, PEq, PLt, PLe, PMember, PAt, PAnd, POr, PNot, PInv};
+ghost use Rattle.kola_term.specs.Terms.{PKP, PCP, PEx, PFa};
+ghost use Rattle.kola_term.specs.Terms.{PMeta, TermF, TermP};
 ghost use Rattle.kola_term.specs.Typing.{Context, MFun, MPred, MConst};
-ghost use Rattle.kola_term.specs.ContextView.{context_of};
 ghost use Rattle.kola_rule.specs.Rules.{RuleTree};
 ghost use Rattle.kola_rule.specs.RuleViews.{rule_tree};
 ghost use Rattle.kola_laws.specs.Making.{MakesType, MakesConst, MakesFun, MakesPred, MakesContext, MakesRule};
@@ -52,7 +55,7 @@ fn with_conditions(rule: Rule, when: Names) -> Rule
 /// Adds a rule at the end of others.
 #[tactic(auto, unfolding(crate::specs::Making::MakesRule))]
 pub fn add(rules: &mut Vec<Rule>, made: MadeRule) -> Result<(), Memory>
-    ensures { (before done : List RuleTree) (r : RuleTree) → MakesRule rule_tree made r →
+    ensures { (before done : List RuleTree) (r : RuleTree) → MakesRule made r →
         map rule_tree rules.old.items ≡ before ++ done →
         OnOk result (map rule_tree rules.new.items ≡ before ++ (done ++ r ∷ [])) }
 {
@@ -61,29 +64,27 @@ pub fn add(rules: &mut Vec<Rule>, made: MadeRule) -> Result<(), Memory>
     Ok(())
 }
 
+#[tactic(auto, unfolding(crate::specs::Making::MakesType, crate::specs::Making::MakesConst, crate::specs::Making::MakesFun, crate::specs::Making::MakesPred, crate::specs::Making::MakesContext, crate::specs::Making::MakesRule))]
 impl Maker {
     /// A type variable.
-    #[tactic(auto, unfolding(crate::specs::Making::MakesType, crate::specs::Making::MakesConst, crate::specs::Making::MakesFun, crate::specs::Making::MakesPred, crate::specs::Making::MakesContext, crate::specs::Making::MakesRule))]
     pub fn ty(self, name: &str) -> MadeType
-        ensures { MakesType (λ t. t) result (TVar name.now) }
+        ensures { MakesType result (TVar name.now) }
     {
         let name = Name::from_text(self.alloc, name)?;
         BoxedTy::new(self.alloc, Ty::Var(name))
     }
 
     /// The sets of a type.
-    #[tactic(auto, unfolding(crate::specs::Making::MakesType, crate::specs::Making::MakesConst, crate::specs::Making::MakesFun, crate::specs::Making::MakesPred, crate::specs::Making::MakesContext, crate::specs::Making::MakesRule))]
     pub fn set(self, t: MadeType) -> MadeType
-        ensures { (a : TypeTree) → MakesType (λ t. t) t a → MakesType (λ t. t) result (TSet a) }
+        ensures { (a : TypeTree) → MakesType t a → MakesType result (TSet a) }
     {
         let t = t?;
         BoxedTy::new(self.alloc, Ty::Set(t))
     }
 
     /// The pairs of two types.
-    #[tactic(auto, unfolding(crate::specs::Making::MakesType, crate::specs::Making::MakesConst, crate::specs::Making::MakesFun, crate::specs::Making::MakesPred, crate::specs::Making::MakesContext, crate::specs::Making::MakesRule))]
     pub fn pair_type(self, t: MadeType, u: MadeType) -> MadeType
-        ensures { (a b : TypeTree) → MakesType (λ t. t) t a → MakesType (λ t. t) u b → MakesType (λ t. t) result (TPair a b) }
+        ensures { (a b : TypeTree) → MakesType t a → MakesType u b → MakesType result (TPair a b) }
     {
         let t = t?;
         let u = u?;
@@ -91,81 +92,72 @@ impl Maker {
     }
 
     /// A constant variable.
-    #[tactic(auto, unfolding(crate::specs::Making::MakesType, crate::specs::Making::MakesConst, crate::specs::Making::MakesFun, crate::specs::Making::MakesPred, crate::specs::Making::MakesContext, crate::specs::Making::MakesRule))]
     pub fn constant(self, name: &str) -> MadeConst
-        ensures { MakesConst const_tree result (CMeta name.now) }
+        ensures { MakesConst result (CMeta name.now) }
     {
         let name = Name::from_text(self.alloc, name)?;
         Ok(Const::Meta(name))
     }
 
     /// `id`.
-    #[tactic(auto, unfolding(crate::specs::Making::MakesType, crate::specs::Making::MakesConst, crate::specs::Making::MakesFun, crate::specs::Making::MakesPred, crate::specs::Making::MakesContext, crate::specs::Making::MakesRule))]
     pub fn id(self) -> MadeFun
-        ensures { MakesFun (λ b. fun_tree b.value) result FId }
+        ensures { MakesFun result FId }
     {
         let f = Box::new(self.alloc, Fun::Id)?;
         Ok(f)
     }
 
     /// `fst`.
-    #[tactic(auto, unfolding(crate::specs::Making::MakesType, crate::specs::Making::MakesConst, crate::specs::Making::MakesFun, crate::specs::Making::MakesPred, crate::specs::Making::MakesContext, crate::specs::Making::MakesRule))]
     pub fn fst(self) -> MadeFun
-        ensures { MakesFun (λ b. fun_tree b.value) result FFst }
+        ensures { MakesFun result FFst }
     {
         let f = Box::new(self.alloc, Fun::Fst)?;
         Ok(f)
     }
 
     /// `snd`.
-    #[tactic(auto, unfolding(crate::specs::Making::MakesType, crate::specs::Making::MakesConst, crate::specs::Making::MakesFun, crate::specs::Making::MakesPred, crate::specs::Making::MakesContext, crate::specs::Making::MakesRule))]
     pub fn snd(self) -> MadeFun
-        ensures { MakesFun (λ b. fun_tree b.value) result FSnd }
+        ensures { MakesFun result FSnd }
     {
         let f = Box::new(self.alloc, Fun::Snd)?;
         Ok(f)
     }
 
     /// `flat`.
-    #[tactic(auto, unfolding(crate::specs::Making::MakesType, crate::specs::Making::MakesConst, crate::specs::Making::MakesFun, crate::specs::Making::MakesPred, crate::specs::Making::MakesContext, crate::specs::Making::MakesRule))]
     pub fn flat(self) -> MadeFun
-        ensures { MakesFun (λ b. fun_tree b.value) result FFlat }
+        ensures { MakesFun result FFlat }
     {
         let f = Box::new(self.alloc, Fun::Flat)?;
         Ok(f)
     }
 
     /// `union`.
-    #[tactic(auto, unfolding(crate::specs::Making::MakesType, crate::specs::Making::MakesConst, crate::specs::Making::MakesFun, crate::specs::Making::MakesPred, crate::specs::Making::MakesContext, crate::specs::Making::MakesRule))]
     pub fn union(self) -> MadeFun
-        ensures { MakesFun (λ b. fun_tree b.value) result FUnion }
+        ensures { MakesFun result FUnion }
     {
         let f = Box::new(self.alloc, Fun::Union)?;
         Ok(f)
     }
 
     /// `isect`.
-    #[tactic(auto, unfolding(crate::specs::Making::MakesType, crate::specs::Making::MakesConst, crate::specs::Making::MakesFun, crate::specs::Making::MakesPred, crate::specs::Making::MakesContext, crate::specs::Making::MakesRule))]
     pub fn isect(self) -> MadeFun
-        ensures { MakesFun (λ b. fun_tree b.value) result FIsect }
+        ensures { MakesFun result FIsect }
     {
         let f = Box::new(self.alloc, Fun::Isect)?;
         Ok(f)
     }
 
     /// `minus`.
-    #[tactic(auto, unfolding(crate::specs::Making::MakesType, crate::specs::Making::MakesConst, crate::specs::Making::MakesFun, crate::specs::Making::MakesPred, crate::specs::Making::MakesContext, crate::specs::Making::MakesRule))]
     pub fn minus(self) -> MadeFun
-        ensures { MakesFun (λ b. fun_tree b.value) result FMinus }
+        ensures { MakesFun result FMinus }
     {
         let f = Box::new(self.alloc, Fun::Minus)?;
         Ok(f)
     }
 
     /// A function variable.
-    #[tactic(auto, unfolding(crate::specs::Making::MakesType, crate::specs::Making::MakesConst, crate::specs::Making::MakesFun, crate::specs::Making::MakesPred, crate::specs::Making::MakesContext, crate::specs::Making::MakesRule))]
     pub fn fun(self, name: &str) -> MadeFun
-        ensures { MakesFun (λ b. fun_tree b.value) result (FMeta name.now) }
+        ensures { MakesFun result (FMeta name.now) }
     {
         let name = Name::from_text(self.alloc, name)?;
         let f = Box::new(self.alloc, Fun::Meta(name))?;
@@ -173,9 +165,8 @@ impl Maker {
     }
 
     /// `(f o g)`.
-    #[tactic(auto, unfolding(crate::specs::Making::MakesType, crate::specs::Making::MakesConst, crate::specs::Making::MakesFun, crate::specs::Making::MakesPred, crate::specs::Making::MakesContext, crate::specs::Making::MakesRule))]
     pub fn comp(self, f: MadeFun, g: MadeFun) -> MadeFun
-        ensures { (a b : FunTree) → MakesFun (λ b. fun_tree b.value) f a → MakesFun (λ b. fun_tree b.value) g b → MakesFun (λ b. fun_tree b.value) result (FComp a b) }
+        ensures { (a b : FunTree) → MakesFun f a → MakesFun g b → MakesFun result (FComp a b) }
     {
         let f = f?;
         let g = g?;
@@ -184,9 +175,8 @@ impl Maker {
     }
 
     /// `<f, g>`.
-    #[tactic(auto, unfolding(crate::specs::Making::MakesType, crate::specs::Making::MakesConst, crate::specs::Making::MakesFun, crate::specs::Making::MakesPred, crate::specs::Making::MakesContext, crate::specs::Making::MakesRule))]
     pub fn pair(self, f: MadeFun, g: MadeFun) -> MadeFun
-        ensures { (a b : FunTree) → MakesFun (λ b. fun_tree b.value) f a → MakesFun (λ b. fun_tree b.value) g b → MakesFun (λ b. fun_tree b.value) result (FPair a b) }
+        ensures { (a b : FunTree) → MakesFun f a → MakesFun g b → MakesFun result (FPair a b) }
     {
         let f = f?;
         let g = g?;
@@ -195,9 +185,8 @@ impl Maker {
     }
 
     /// `(f * g)`.
-    #[tactic(auto, unfolding(crate::specs::Making::MakesType, crate::specs::Making::MakesConst, crate::specs::Making::MakesFun, crate::specs::Making::MakesPred, crate::specs::Making::MakesContext, crate::specs::Making::MakesRule))]
     pub fn times(self, f: MadeFun, g: MadeFun) -> MadeFun
-        ensures { (a b : FunTree) → MakesFun (λ b. fun_tree b.value) f a → MakesFun (λ b. fun_tree b.value) g b → MakesFun (λ b. fun_tree b.value) result (FTimes a b) }
+        ensures { (a b : FunTree) → MakesFun f a → MakesFun g b → MakesFun result (FTimes a b) }
     {
         let f = f?;
         let g = g?;
@@ -206,9 +195,8 @@ impl Maker {
     }
 
     /// `nest(f, g)`.
-    #[tactic(auto, unfolding(crate::specs::Making::MakesType, crate::specs::Making::MakesConst, crate::specs::Making::MakesFun, crate::specs::Making::MakesPred, crate::specs::Making::MakesContext, crate::specs::Making::MakesRule))]
     pub fn nest(self, f: MadeFun, g: MadeFun) -> MadeFun
-        ensures { (a b : FunTree) → MakesFun (λ b. fun_tree b.value) f a → MakesFun (λ b. fun_tree b.value) g b → MakesFun (λ b. fun_tree b.value) result (FNest a b) }
+        ensures { (a b : FunTree) → MakesFun f a → MakesFun g b → MakesFun result (FNest a b) }
     {
         let f = f?;
         let g = g?;
@@ -217,9 +205,8 @@ impl Maker {
     }
 
     /// `unnest(f, g)`.
-    #[tactic(auto, unfolding(crate::specs::Making::MakesType, crate::specs::Making::MakesConst, crate::specs::Making::MakesFun, crate::specs::Making::MakesPred, crate::specs::Making::MakesContext, crate::specs::Making::MakesRule))]
     pub fn unnest(self, f: MadeFun, g: MadeFun) -> MadeFun
-        ensures { (a b : FunTree) → MakesFun (λ b. fun_tree b.value) f a → MakesFun (λ b. fun_tree b.value) g b → MakesFun (λ b. fun_tree b.value) result (FUnnest a b) }
+        ensures { (a b : FunTree) → MakesFun f a → MakesFun g b → MakesFun result (FUnnest a b) }
     {
         let f = f?;
         let g = g?;
@@ -228,9 +215,8 @@ impl Maker {
     }
 
     /// `K(c)`.
-    #[tactic(auto, unfolding(crate::specs::Making::MakesType, crate::specs::Making::MakesConst, crate::specs::Making::MakesFun, crate::specs::Making::MakesPred, crate::specs::Making::MakesContext, crate::specs::Making::MakesRule))]
     pub fn always(self, c: MadeConst) -> MadeFun
-        ensures { (a : ConstTree) → MakesConst const_tree c a → MakesFun (λ b. fun_tree b.value) result (FK a) }
+        ensures { (a : ConstTree) → MakesConst c a → MakesFun result (FK a) }
     {
         let c = c?;
         let made = Box::new(self.alloc, Fun::K(c))?;
@@ -238,9 +224,8 @@ impl Maker {
     }
 
     /// `C(f, c)`.
-    #[tactic(auto, unfolding(crate::specs::Making::MakesType, crate::specs::Making::MakesConst, crate::specs::Making::MakesFun, crate::specs::Making::MakesPred, crate::specs::Making::MakesContext, crate::specs::Making::MakesRule))]
     pub fn partial(self, f: MadeFun, c: MadeConst) -> MadeFun
-        ensures { (a : FunTree) (b : ConstTree) → MakesFun (λ b. fun_tree b.value) f a → MakesConst const_tree c b → MakesFun (λ b. fun_tree b.value) result (FC a b) }
+        ensures { (a : FunTree) (b : ConstTree) → MakesFun f a → MakesConst c b → MakesFun result (FC a b) }
     {
         let f = f?;
         let c = c?;
@@ -249,9 +234,9 @@ impl Maker {
     }
 
     /// `if(p, f, g)`.
-    #[tactic(auto, unfolding(crate::specs::Making::MakesType, crate::specs::Making::MakesConst, crate::specs::Making::MakesFun, crate::specs::Making::MakesPred, crate::specs::Making::MakesContext, crate::specs::Making::MakesRule))]
     pub fn choice(self, p: MadePred, f: MadeFun, g: MadeFun) -> MadeFun
-        ensures { (a : PredTree) (b c : FunTree) → MakesPred (λ b. pred_tree b.value) p a → MakesFun (λ b. fun_tree b.value) f b → MakesFun (λ b. fun_tree b.value) g c → MakesFun (λ b. fun_tree b.value) result (FIf a b c) }
+        ensures { (a : PredTree) (b c : FunTree) → MakesPred p a → MakesFun f b → MakesFun g c →
+            MakesFun result (FIf a b c) }
     {
         let p = p?;
         let f = f?;
@@ -261,9 +246,8 @@ impl Maker {
     }
 
     /// `iterate(p, f)`.
-    #[tactic(auto, unfolding(crate::specs::Making::MakesType, crate::specs::Making::MakesConst, crate::specs::Making::MakesFun, crate::specs::Making::MakesPred, crate::specs::Making::MakesContext, crate::specs::Making::MakesRule))]
     pub fn iterate(self, p: MadePred, f: MadeFun) -> MadeFun
-        ensures { (a : PredTree) (b : FunTree) → MakesPred (λ b. pred_tree b.value) p a → MakesFun (λ b. fun_tree b.value) f b → MakesFun (λ b. fun_tree b.value) result (FIterate a b) }
+        ensures { (a : PredTree) (b : FunTree) → MakesPred p a → MakesFun f b → MakesFun result (FIterate a b) }
     {
         let p = p?;
         let f = f?;
@@ -272,9 +256,8 @@ impl Maker {
     }
 
     /// `iter(p, f)`.
-    #[tactic(auto, unfolding(crate::specs::Making::MakesType, crate::specs::Making::MakesConst, crate::specs::Making::MakesFun, crate::specs::Making::MakesPred, crate::specs::Making::MakesContext, crate::specs::Making::MakesRule))]
     pub fn iter(self, p: MadePred, f: MadeFun) -> MadeFun
-        ensures { (a : PredTree) (b : FunTree) → MakesPred (λ b. pred_tree b.value) p a → MakesFun (λ b. fun_tree b.value) f b → MakesFun (λ b. fun_tree b.value) result (FIter a b) }
+        ensures { (a : PredTree) (b : FunTree) → MakesPred p a → MakesFun f b → MakesFun result (FIter a b) }
     {
         let p = p?;
         let f = f?;
@@ -283,9 +266,8 @@ impl Maker {
     }
 
     /// `join(p, f)`.
-    #[tactic(auto, unfolding(crate::specs::Making::MakesType, crate::specs::Making::MakesConst, crate::specs::Making::MakesFun, crate::specs::Making::MakesPred, crate::specs::Making::MakesContext, crate::specs::Making::MakesRule))]
     pub fn join(self, p: MadePred, f: MadeFun) -> MadeFun
-        ensures { (a : PredTree) (b : FunTree) → MakesPred (λ b. pred_tree b.value) p a → MakesFun (λ b. fun_tree b.value) f b → MakesFun (λ b. fun_tree b.value) result (FJoin a b) }
+        ensures { (a : PredTree) (b : FunTree) → MakesPred p a → MakesFun f b → MakesFun result (FJoin a b) }
     {
         let p = p?;
         let f = f?;
@@ -294,54 +276,48 @@ impl Maker {
     }
 
     /// `eq`.
-    #[tactic(auto, unfolding(crate::specs::Making::MakesType, crate::specs::Making::MakesConst, crate::specs::Making::MakesFun, crate::specs::Making::MakesPred, crate::specs::Making::MakesContext, crate::specs::Making::MakesRule))]
     pub fn eq(self) -> MadePred
-        ensures { MakesPred (λ b. pred_tree b.value) result PEq }
+        ensures { MakesPred result PEq }
     {
         let p = Box::new(self.alloc, Pred::Eq)?;
         Ok(p)
     }
 
     /// `lt`.
-    #[tactic(auto, unfolding(crate::specs::Making::MakesType, crate::specs::Making::MakesConst, crate::specs::Making::MakesFun, crate::specs::Making::MakesPred, crate::specs::Making::MakesContext, crate::specs::Making::MakesRule))]
     pub fn lt(self) -> MadePred
-        ensures { MakesPred (λ b. pred_tree b.value) result PLt }
+        ensures { MakesPred result PLt }
     {
         let p = Box::new(self.alloc, Pred::Lt)?;
         Ok(p)
     }
 
     /// `le`.
-    #[tactic(auto, unfolding(crate::specs::Making::MakesType, crate::specs::Making::MakesConst, crate::specs::Making::MakesFun, crate::specs::Making::MakesPred, crate::specs::Making::MakesContext, crate::specs::Making::MakesRule))]
     pub fn le(self) -> MadePred
-        ensures { MakesPred (λ b. pred_tree b.value) result PLe }
+        ensures { MakesPred result PLe }
     {
         let p = Box::new(self.alloc, Pred::Le)?;
         Ok(p)
     }
 
     /// `in`.
-    #[tactic(auto, unfolding(crate::specs::Making::MakesType, crate::specs::Making::MakesConst, crate::specs::Making::MakesFun, crate::specs::Making::MakesPred, crate::specs::Making::MakesContext, crate::specs::Making::MakesRule))]
     pub fn member(self) -> MadePred
-        ensures { MakesPred (λ b. pred_tree b.value) result PMember }
+        ensures { MakesPred result PMember }
     {
         let p = Box::new(self.alloc, Pred::Member)?;
         Ok(p)
     }
 
     /// `KP(b)`.
-    #[tactic(auto, unfolding(crate::specs::Making::MakesType, crate::specs::Making::MakesConst, crate::specs::Making::MakesFun, crate::specs::Making::MakesPred, crate::specs::Making::MakesContext, crate::specs::Making::MakesRule))]
     pub fn known(self, b: bool) -> MadePred
-        ensures { MakesPred (λ b. pred_tree b.value) result (PKP b) }
+        ensures { MakesPred result (PKP b) }
     {
         let p = Box::new(self.alloc, Pred::KP(b))?;
         Ok(p)
     }
 
     /// A predicate variable.
-    #[tactic(auto, unfolding(crate::specs::Making::MakesType, crate::specs::Making::MakesConst, crate::specs::Making::MakesFun, crate::specs::Making::MakesPred, crate::specs::Making::MakesContext, crate::specs::Making::MakesRule))]
     pub fn pred(self, name: &str) -> MadePred
-        ensures { MakesPred (λ b. pred_tree b.value) result (PMeta name.now) }
+        ensures { MakesPred result (PMeta name.now) }
     {
         let name = Name::from_text(self.alloc, name)?;
         let p = Box::new(self.alloc, Pred::Meta(name))?;
@@ -349,9 +325,8 @@ impl Maker {
     }
 
     /// `(p @ f)`.
-    #[tactic(auto, unfolding(crate::specs::Making::MakesType, crate::specs::Making::MakesConst, crate::specs::Making::MakesFun, crate::specs::Making::MakesPred, crate::specs::Making::MakesContext, crate::specs::Making::MakesRule))]
     pub fn at(self, p: MadePred, f: MadeFun) -> MadePred
-        ensures { (a : PredTree) (b : FunTree) → MakesPred (λ b. pred_tree b.value) p a → MakesFun (λ b. fun_tree b.value) f b → MakesPred (λ b. pred_tree b.value) result (PAt a b) }
+        ensures { (a : PredTree) (b : FunTree) → MakesPred p a → MakesFun f b → MakesPred result (PAt a b) }
     {
         let p = p?;
         let f = f?;
@@ -360,9 +335,8 @@ impl Maker {
     }
 
     /// `(p & q)`.
-    #[tactic(auto, unfolding(crate::specs::Making::MakesType, crate::specs::Making::MakesConst, crate::specs::Making::MakesFun, crate::specs::Making::MakesPred, crate::specs::Making::MakesContext, crate::specs::Making::MakesRule))]
     pub fn and(self, p: MadePred, q: MadePred) -> MadePred
-        ensures { (a b : PredTree) → MakesPred (λ b. pred_tree b.value) p a → MakesPred (λ b. pred_tree b.value) q b → MakesPred (λ b. pred_tree b.value) result (PAnd a b) }
+        ensures { (a b : PredTree) → MakesPred p a → MakesPred q b → MakesPred result (PAnd a b) }
     {
         let p = p?;
         let q = q?;
@@ -371,9 +345,8 @@ impl Maker {
     }
 
     /// `(p | q)`.
-    #[tactic(auto, unfolding(crate::specs::Making::MakesType, crate::specs::Making::MakesConst, crate::specs::Making::MakesFun, crate::specs::Making::MakesPred, crate::specs::Making::MakesContext, crate::specs::Making::MakesRule))]
     pub fn or(self, p: MadePred, q: MadePred) -> MadePred
-        ensures { (a b : PredTree) → MakesPred (λ b. pred_tree b.value) p a → MakesPred (λ b. pred_tree b.value) q b → MakesPred (λ b. pred_tree b.value) result (POr a b) }
+        ensures { (a b : PredTree) → MakesPred p a → MakesPred q b → MakesPred result (POr a b) }
     {
         let p = p?;
         let q = q?;
@@ -382,9 +355,8 @@ impl Maker {
     }
 
     /// `~p`.
-    #[tactic(auto, unfolding(crate::specs::Making::MakesType, crate::specs::Making::MakesConst, crate::specs::Making::MakesFun, crate::specs::Making::MakesPred, crate::specs::Making::MakesContext, crate::specs::Making::MakesRule))]
     pub fn not(self, p: MadePred) -> MadePred
-        ensures { (a : PredTree) → MakesPred (λ b. pred_tree b.value) p a → MakesPred (λ b. pred_tree b.value) result (PNot a) }
+        ensures { (a : PredTree) → MakesPred p a → MakesPred result (PNot a) }
     {
         let p = p?;
         let made = Box::new(self.alloc, Pred::Not(p))?;
@@ -392,9 +364,8 @@ impl Maker {
     }
 
     /// `inv(p)`.
-    #[tactic(auto, unfolding(crate::specs::Making::MakesType, crate::specs::Making::MakesConst, crate::specs::Making::MakesFun, crate::specs::Making::MakesPred, crate::specs::Making::MakesContext, crate::specs::Making::MakesRule))]
     pub fn inverse(self, p: MadePred) -> MadePred
-        ensures { (a : PredTree) → MakesPred (λ b. pred_tree b.value) p a → MakesPred (λ b. pred_tree b.value) result (PInv a) }
+        ensures { (a : PredTree) → MakesPred p a → MakesPred result (PInv a) }
     {
         let p = p?;
         let made = Box::new(self.alloc, Pred::Inv(p))?;
@@ -402,9 +373,8 @@ impl Maker {
     }
 
     /// `ex(p)`.
-    #[tactic(auto, unfolding(crate::specs::Making::MakesType, crate::specs::Making::MakesConst, crate::specs::Making::MakesFun, crate::specs::Making::MakesPred, crate::specs::Making::MakesContext, crate::specs::Making::MakesRule))]
     pub fn some(self, p: MadePred) -> MadePred
-        ensures { (a : PredTree) → MakesPred (λ b. pred_tree b.value) p a → MakesPred (λ b. pred_tree b.value) result (PEx a) }
+        ensures { (a : PredTree) → MakesPred p a → MakesPred result (PEx a) }
     {
         let p = p?;
         let made = Box::new(self.alloc, Pred::Ex(p))?;
@@ -412,9 +382,8 @@ impl Maker {
     }
 
     /// `fa(p)`.
-    #[tactic(auto, unfolding(crate::specs::Making::MakesType, crate::specs::Making::MakesConst, crate::specs::Making::MakesFun, crate::specs::Making::MakesPred, crate::specs::Making::MakesContext, crate::specs::Making::MakesRule))]
     pub fn each(self, p: MadePred) -> MadePred
-        ensures { (a : PredTree) → MakesPred (λ b. pred_tree b.value) p a → MakesPred (λ b. pred_tree b.value) result (PFa a) }
+        ensures { (a : PredTree) → MakesPred p a → MakesPred result (PFa a) }
     {
         let p = p?;
         let made = Box::new(self.alloc, Pred::Fa(p))?;
@@ -422,9 +391,8 @@ impl Maker {
     }
 
     /// `CP(p, c)`.
-    #[tactic(auto, unfolding(crate::specs::Making::MakesType, crate::specs::Making::MakesConst, crate::specs::Making::MakesFun, crate::specs::Making::MakesPred, crate::specs::Making::MakesContext, crate::specs::Making::MakesRule))]
     pub fn partial_pred(self, p: MadePred, c: MadeConst) -> MadePred
-        ensures { (a : PredTree) (b : ConstTree) → MakesPred (λ b. pred_tree b.value) p a → MakesConst const_tree c b → MakesPred (λ b. pred_tree b.value) result (PCP a b) }
+        ensures { (a : PredTree) (b : ConstTree) → MakesPred p a → MakesConst c b → MakesPred result (PCP a b) }
     {
         let p = p?;
         let c = c?;
@@ -433,17 +401,16 @@ impl Maker {
     }
 
     /// No variable.
-    #[tactic(auto, unfolding(crate::specs::Making::MakesType, crate::specs::Making::MakesConst, crate::specs::Making::MakesFun, crate::specs::Making::MakesPred, crate::specs::Making::MakesContext, crate::specs::Making::MakesRule))]
     pub fn no_vars(self) -> MadeContext
-        ensures { MakesContext context_of result [] }
+        ensures { MakesContext result [] }
     {
         Ok(MetaCtx::new(self.alloc))
     }
 
     /// A variable for functions before others.
-    #[tactic(auto, unfolding(crate::specs::Making::MakesType, crate::specs::Making::MakesConst, crate::specs::Making::MakesFun, crate::specs::Making::MakesPred, crate::specs::Making::MakesContext, crate::specs::Making::MakesRule))]
     pub fn fun_var(self, name: &str, t: MadeType, u: MadeType, rest: MadeContext) -> MadeContext
-        ensures { (a b : TypeTree) (x : Context) → MakesType (λ t. t) t a → MakesType (λ t. t) u b → MakesContext context_of rest x → MakesContext context_of result ((name.now, MFun a b) ∷ x) }
+        ensures { (a b : TypeTree) (x : Context) → MakesType t a → MakesType u b → MakesContext rest x →
+            MakesContext result ((name.now, MFun a b) ∷ x) }
     {
         let t = t?;
         let u = u?;
@@ -453,9 +420,9 @@ impl Maker {
     }
 
     /// A variable for predicates before others.
-    #[tactic(auto, unfolding(crate::specs::Making::MakesType, crate::specs::Making::MakesConst, crate::specs::Making::MakesFun, crate::specs::Making::MakesPred, crate::specs::Making::MakesContext, crate::specs::Making::MakesRule))]
     pub fn pred_var(self, name: &str, t: MadeType, rest: MadeContext) -> MadeContext
-        ensures { (a : TypeTree) (x : Context) → MakesType (λ t. t) t a → MakesContext context_of rest x → MakesContext context_of result ((name.now, MPred a) ∷ x) }
+        ensures { (a : TypeTree) (x : Context) → MakesType t a → MakesContext rest x →
+            MakesContext result ((name.now, MPred a) ∷ x) }
     {
         let t = t?;
         let rest = rest?;
@@ -464,9 +431,9 @@ impl Maker {
     }
 
     /// A variable for constants before others.
-    #[tactic(auto, unfolding(crate::specs::Making::MakesType, crate::specs::Making::MakesConst, crate::specs::Making::MakesFun, crate::specs::Making::MakesPred, crate::specs::Making::MakesContext, crate::specs::Making::MakesRule))]
     pub fn const_var(self, name: &str, t: MadeType, rest: MadeContext) -> MadeContext
-        ensures { (a : TypeTree) (x : Context) → MakesType (λ t. t) t a → MakesContext context_of rest x → MakesContext context_of result ((name.now, MConst a) ∷ x) }
+        ensures { (a : TypeTree) (x : Context) → MakesType t a → MakesContext rest x →
+            MakesContext result ((name.now, MConst a) ∷ x) }
     {
         let t = t?;
         let rest = rest?;
@@ -475,7 +442,6 @@ impl Maker {
     }
 
     /// The rule of a name, between two functions, without conditions.
-    #[tactic(auto, unfolding(crate::specs::Making::MakesType, crate::specs::Making::MakesConst, crate::specs::Making::MakesFun, crate::specs::Making::MakesPred, crate::specs::Making::MakesContext, crate::specs::Making::MakesRule))]
     pub fn funs(
         self,
         name: &str,
@@ -484,7 +450,15 @@ impl Maker {
         left: MadeFun,
         right: MadeFun,
     ) -> MadeRule
-        ensures { (x : Context) (t : TypeTree) (a b : FunTree) → MakesContext context_of vars x → MakesType (λ t. t) input t → MakesFun (λ b. fun_tree b.value) left a → MakesFun (λ b. fun_tree b.value) right b → MakesRule rule_tree result (record { name = name.now; vars = x; input = t; when = []; left = TermF a; right = TermF b }) }
+        ensures { (x : Context) (t : TypeTree) (a b : FunTree) → MakesContext vars x → MakesType input t →
+            MakesFun left a → MakesFun right b → MakesRule result (record {
+              name = name.now;
+              vars = x;
+              input = t;
+              when = [];
+              left = TermF a;
+              right = TermF b;
+            }) }
     {
         let left = left?;
         let right = right?;
@@ -502,7 +476,6 @@ impl Maker {
     }
 
     /// The rule of a name, between two predicates, without conditions.
-    #[tactic(auto, unfolding(crate::specs::Making::MakesType, crate::specs::Making::MakesConst, crate::specs::Making::MakesFun, crate::specs::Making::MakesPred, crate::specs::Making::MakesContext, crate::specs::Making::MakesRule))]
     pub fn preds(
         self,
         name: &str,
@@ -511,7 +484,15 @@ impl Maker {
         left: MadePred,
         right: MadePred,
     ) -> MadeRule
-        ensures { (x : Context) (t : TypeTree) (a b : PredTree) → MakesContext context_of vars x → MakesType (λ t. t) input t → MakesPred (λ b. pred_tree b.value) left a → MakesPred (λ b. pred_tree b.value) right b → MakesRule rule_tree result (record { name = name.now; vars = x; input = t; when = []; left = TermP a; right = TermP b }) }
+        ensures { (x : Context) (t : TypeTree) (a b : PredTree) → MakesContext vars x → MakesType input t →
+            MakesPred left a → MakesPred right b → MakesRule result (record {
+              name = name.now;
+              vars = x;
+              input = t;
+              when = [];
+              left = TermP a;
+              right = TermP b;
+            }) }
     {
         let left = left?;
         let right = right?;
@@ -539,9 +520,8 @@ impl Maker {
     }
 
     /// The rule under the condition that one of its function variables is injective.
-    #[tactic(auto, unfolding(crate::specs::Making::MakesRule))]
     pub fn when_injective(self, name: &str, rule: MadeRule) -> MadeRule
-        ensures { (r : RuleTree) → MakesRule rule_tree rule r → MakesRule rule_tree result (record r { when = name.now ∷ [] }) }
+        ensures { (r : RuleTree) → MakesRule rule r → MakesRule result (record r { when = name.now ∷ [] }) }
     {
         let rule = rule?;
         let when = self.one_name(name)?;

@@ -23,7 +23,7 @@ pub fn nesting(m: Maker, rules: &mut Vec<Rule>) -> Result<(), Memory>
 
 /// `nest(f, g) = iter(KP(true), <snd, (iter((eq @ <(f o snd), fst>), (g o snd)) o <snd, fst>)>)`
 fn nest_def(m: Maker) -> MadeRule
-    ensures { MakesRule rule_tree result nest_def }
+    ensures { MakesRule result nest_def }
 {
     let vars = m.fun_var(
         "f",
@@ -51,7 +51,7 @@ fn nest_def(m: Maker) -> MadeRule
 
 /// `unnest(f, g) = (flat o iterate(KP(true), (iter(KP(true), id) o <f, g>)))`
 fn unnest_def(m: Maker) -> MadeRule
-    ensures { MakesRule rule_tree result unnest_def }
+    ensures { MakesRule result unnest_def }
 {
     let vars = m.fun_var(
         "f",
@@ -76,7 +76,7 @@ fn unnest_def(m: Maker) -> MadeRule
 
 /// `(iter(KP(true), <snd, (iter(p, f) o <snd, fst>)>) o <snd, fst>) = (nest(fst, snd) o <join(p, <fst, f>), fst>)`
 fn nest_join(m: Maker) -> MadeRule
-    ensures { MakesRule rule_tree result nest_join }
+    ensures { MakesRule result nest_join }
 {
     let vars = m.pred_var(
         "p",
@@ -106,9 +106,10 @@ fn nest_join(m: Maker) -> MadeRule
     m.funs("nest_join", vars, input, left, right)
 }
 
-/// `(iter(KP(true), <snd, (flat o (iter(p, f) o <snd, fst>))>) o <snd, fst>) = (nest(fst, snd) o <(unnest(fst, snd) o join(p, <fst, f>)), fst>)`
+/// `(iter(KP(true), <snd, (flat o (iter(p, f) o <snd, fst>))>) o <snd, fst>)`
+/// `= (nest(fst, snd) o <(unnest(fst, snd) o join(p, <fst, f>)), fst>)`
 fn nest_unnest(m: Maker) -> MadeRule
-    ensures { MakesRule rule_tree result nest_unnest }
+    ensures { MakesRule result nest_unnest }
 {
     let vars = m.pred_var(
         "p",
@@ -147,9 +148,10 @@ fn nest_unnest(m: Maker) -> MadeRule
     m.funs("nest_unnest", vars, input, left, right)
 }
 
-/// `(iter(KP(true), <snd, (iter(p, f) o <snd, K(x)>)>) o <id, K(y)>) = ((nest(fst, snd) o <join(p, <fst, f>), fst>) o <K(y), K(x)>)`
+/// `(iter(KP(true), <snd, (iter(p, f) o <snd, K(x)>)>) o <id, K(y)>)`
+/// `= ((nest(fst, snd) o <join(p, <fst, f>), fst>) o <K(y), K(x)>)`
 fn nest_const(m: Maker) -> MadeRule
-    ensures { MakesRule rule_tree result nest_const }
+    ensures { MakesRule result nest_const }
 {
     let vars = m.pred_var(
         "p",

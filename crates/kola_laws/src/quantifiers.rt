@@ -2,7 +2,8 @@
 
 ghost use Rattle.std.specs.Prelude.{◌≡◌, ◌++◌, map, OnOk};
 ghost use Rattle.kola_rule.specs.RuleViews.{rule_tree};
-ghost use Rattle.kola_laws.specs.Quantifiers.{quantifiers, not_ex, not_fa, in_ex, ex_or, fa_and, ex_and_env, ex_iter, ex_env, fa_env};
+ghost use Rattle.kola_laws.specs.Quantifiers.{quantifiers, not_ex, not_fa, in_ex, ex_or, fa_and, ex_and_env, ex_iter};
+ghost use Rattle.kola_laws.specs.Quantifiers.{ex_env, fa_env};
 ghost use Rattle.kola_laws.specs.Making.{MakesRule};
 
 use crate::maker::{MadeRule, Maker, add};
@@ -27,7 +28,7 @@ pub fn quantifiers(m: Maker, rules: &mut Vec<Rule>) -> Result<(), Memory>
 
 /// `~ex(p) = fa(~p)`
 fn not_ex(m: Maker) -> MadeRule
-    ensures { MakesRule rule_tree result not_ex }
+    ensures { MakesRule result not_ex }
 {
     let vars = m.pred_var("p", m.pair_type(m.ty("a"), m.ty("b")), m.no_vars());
     let input = m.pair_type(m.ty("a"), m.set(m.ty("b")));
@@ -38,7 +39,7 @@ fn not_ex(m: Maker) -> MadeRule
 
 /// `~fa(p) = ex(~p)`
 fn not_fa(m: Maker) -> MadeRule
-    ensures { MakesRule rule_tree result not_fa }
+    ensures { MakesRule result not_fa }
 {
     let vars = m.pred_var("p", m.pair_type(m.ty("a"), m.ty("b")), m.no_vars());
     let input = m.pair_type(m.ty("a"), m.set(m.ty("b")));
@@ -49,7 +50,7 @@ fn not_fa(m: Maker) -> MadeRule
 
 /// `in = ex(eq)`
 fn in_ex(m: Maker) -> MadeRule
-    ensures { MakesRule rule_tree result in_ex }
+    ensures { MakesRule result in_ex }
 {
     let vars = m.no_vars();
     let input = m.pair_type(m.ty("a"), m.set(m.ty("a")));
@@ -60,7 +61,7 @@ fn in_ex(m: Maker) -> MadeRule
 
 /// `ex((p | q)) = (ex(p) | ex(q))`
 fn ex_or(m: Maker) -> MadeRule
-    ensures { MakesRule rule_tree result ex_or }
+    ensures { MakesRule result ex_or }
 {
     let vars = m.pred_var(
         "p",
@@ -75,7 +76,7 @@ fn ex_or(m: Maker) -> MadeRule
 
 /// `fa((p & q)) = (fa(p) & fa(q))`
 fn fa_and(m: Maker) -> MadeRule
-    ensures { MakesRule rule_tree result fa_and }
+    ensures { MakesRule result fa_and }
 {
     let vars = m.pred_var(
         "p",
@@ -90,7 +91,7 @@ fn fa_and(m: Maker) -> MadeRule
 
 /// `ex((p & (q @ fst))) = (ex(p) & (q @ fst))`
 fn ex_and_env(m: Maker) -> MadeRule
-    ensures { MakesRule rule_tree result ex_and_env }
+    ensures { MakesRule result ex_and_env }
 {
     let vars = m.pred_var(
         "p",
@@ -105,7 +106,7 @@ fn ex_and_env(m: Maker) -> MadeRule
 
 /// `(ex(p) @ <fst, iter(q, g)>) = ex((q & (p @ <fst, g>)))`
 fn ex_iter(m: Maker) -> MadeRule
-    ensures { MakesRule rule_tree result ex_iter }
+    ensures { MakesRule result ex_iter }
 {
     let vars = m.pred_var(
         "p",
@@ -132,7 +133,7 @@ fn ex_iter(m: Maker) -> MadeRule
 
 /// `(ex(p) @ (h * id)) = ex((p @ (h * id)))`
 fn ex_env(m: Maker) -> MadeRule
-    ensures { MakesRule rule_tree result ex_env }
+    ensures { MakesRule result ex_env }
 {
     let vars = m.pred_var(
         "p",
@@ -147,7 +148,7 @@ fn ex_env(m: Maker) -> MadeRule
 
 /// `(fa(p) @ (h * id)) = fa((p @ (h * id)))`
 fn fa_env(m: Maker) -> MadeRule
-    ensures { MakesRule rule_tree result fa_env }
+    ensures { MakesRule result fa_env }
 {
     let vars = m.pred_var(
         "p",

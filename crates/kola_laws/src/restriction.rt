@@ -25,7 +25,7 @@ pub fn restriction(m: Maker, rules: &mut Vec<Rule>) -> Result<(), Memory>
 
 /// `(p @ id) = p`
 fn at_id(m: Maker) -> MadeRule
-    ensures { MakesRule rule_tree result at_id }
+    ensures { MakesRule result at_id }
 {
     let vars = m.pred_var("p", m.ty("a"), m.no_vars());
     let input = m.ty("a");
@@ -36,7 +36,7 @@ fn at_id(m: Maker) -> MadeRule
 
 /// `((p @ f) @ g) = (p @ (f o g))`
 fn at_at(m: Maker) -> MadeRule
-    ensures { MakesRule rule_tree result at_at }
+    ensures { MakesRule result at_at }
 {
     let vars = m.pred_var(
         "p",
@@ -56,7 +56,7 @@ fn at_at(m: Maker) -> MadeRule
 
 /// `((p & q) @ f) = ((p @ f) & (q @ f))`
 fn at_and(m: Maker) -> MadeRule
-    ensures { MakesRule rule_tree result at_and }
+    ensures { MakesRule result at_and }
 {
     let vars = m.pred_var(
         "p",
@@ -75,7 +75,7 @@ fn at_and(m: Maker) -> MadeRule
 
 /// `((p | q) @ f) = ((p @ f) | (q @ f))`
 fn at_or(m: Maker) -> MadeRule
-    ensures { MakesRule rule_tree result at_or }
+    ensures { MakesRule result at_or }
 {
     let vars = m.pred_var(
         "p",
@@ -94,7 +94,7 @@ fn at_or(m: Maker) -> MadeRule
 
 /// `(~p @ f) = ~(p @ f)`
 fn at_not(m: Maker) -> MadeRule
-    ensures { MakesRule rule_tree result at_not }
+    ensures { MakesRule result at_not }
 {
     let vars = m.pred_var(
         "p",
@@ -109,7 +109,7 @@ fn at_not(m: Maker) -> MadeRule
 
 /// `(KP(true) @ f) = KP(true)`
 fn at_true(m: Maker) -> MadeRule
-    ensures { MakesRule rule_tree result at_true }
+    ensures { MakesRule result at_true }
 {
     let vars = m.fun_var("f", m.ty("a"), m.ty("b"), m.no_vars());
     let input = m.ty("a");
@@ -120,7 +120,7 @@ fn at_true(m: Maker) -> MadeRule
 
 /// `(KP(false) @ f) = KP(false)`
 fn at_false(m: Maker) -> MadeRule
-    ensures { MakesRule rule_tree result at_false }
+    ensures { MakesRule result at_false }
 {
     let vars = m.fun_var("f", m.ty("a"), m.ty("b"), m.no_vars());
     let input = m.ty("a");

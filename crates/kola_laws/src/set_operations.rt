@@ -2,7 +2,8 @@
 
 ghost use Rattle.std.specs.Prelude.{◌≡◌, ◌++◌, map, OnOk};
 ghost use Rattle.kola_rule.specs.RuleViews.{rule_tree};
-ghost use Rattle.kola_laws.specs.SetOperations.{set_operations, iterate_union, iterate_or, iterate_and_not, iterate_and, union_same, union_comm};
+ghost use Rattle.kola_laws.specs.SetOperations.{set_operations, iterate_union, iterate_or, iterate_and_not};
+ghost use Rattle.kola_laws.specs.SetOperations.{iterate_and, union_same, union_comm};
 ghost use Rattle.kola_laws.specs.Making.{MakesRule};
 
 use crate::maker::{MadeRule, Maker, add};
@@ -24,7 +25,7 @@ pub fn set_operations(m: Maker, rules: &mut Vec<Rule>) -> Result<(), Memory>
 
 /// `(iterate(p, f) o union) = (union o (iterate(p, f) * iterate(p, f)))`
 fn iterate_union(m: Maker) -> MadeRule
-    ensures { MakesRule rule_tree result iterate_union }
+    ensures { MakesRule result iterate_union }
 {
     let vars = m.pred_var(
         "p",
@@ -45,7 +46,7 @@ fn iterate_union(m: Maker) -> MadeRule
 
 /// `iterate((p | q), f) = (union o <iterate(p, f), iterate(q, f)>)`
 fn iterate_or(m: Maker) -> MadeRule
-    ensures { MakesRule rule_tree result iterate_or }
+    ensures { MakesRule result iterate_or }
 {
     let vars = m.pred_var(
         "p",
@@ -70,7 +71,7 @@ fn iterate_or(m: Maker) -> MadeRule
 
 /// `iterate((p & ~q), id) = (minus o <iterate(p, id), iterate(q, id)>)`
 fn iterate_and_not(m: Maker) -> MadeRule
-    ensures { MakesRule rule_tree result iterate_and_not }
+    ensures { MakesRule result iterate_and_not }
 {
     let vars = m.pred_var("p", m.ty("a"), m.pred_var("q", m.ty("a"), m.no_vars()));
     let input = m.set(m.ty("a"));
@@ -87,7 +88,7 @@ fn iterate_and_not(m: Maker) -> MadeRule
 
 /// `iterate((p & q), id) = (isect o <iterate(p, id), iterate(q, id)>)`
 fn iterate_and(m: Maker) -> MadeRule
-    ensures { MakesRule rule_tree result iterate_and }
+    ensures { MakesRule result iterate_and }
 {
     let vars = m.pred_var("p", m.ty("a"), m.pred_var("q", m.ty("a"), m.no_vars()));
     let input = m.set(m.ty("a"));
@@ -104,7 +105,7 @@ fn iterate_and(m: Maker) -> MadeRule
 
 /// `(union o <f, f>) = f`
 fn union_same(m: Maker) -> MadeRule
-    ensures { MakesRule rule_tree result union_same }
+    ensures { MakesRule result union_same }
 {
     let vars = m.fun_var("f", m.ty("a"), m.set(m.ty("b")), m.no_vars());
     let input = m.ty("a");
@@ -115,7 +116,7 @@ fn union_same(m: Maker) -> MadeRule
 
 /// `(union o <snd, fst>) = union`
 fn union_comm(m: Maker) -> MadeRule
-    ensures { MakesRule rule_tree result union_comm }
+    ensures { MakesRule result union_comm }
 {
     let vars = m.no_vars();
     let input = m.pair_type(m.set(m.ty("a")), m.set(m.ty("a")));

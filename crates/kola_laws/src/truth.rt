@@ -2,7 +2,8 @@
 
 ghost use Rattle.std.specs.Prelude.{◌≡◌, ◌++◌, map, OnOk};
 ghost use Rattle.kola_rule.specs.RuleViews.{rule_tree};
-ghost use Rattle.kola_laws.specs.Truth.{truth, and_true, and_false, or_true, or_false, and_same, and_comm, or_comm, and_assoc, or_assoc, not_not, not_true, not_and, not_or, and_or};
+ghost use Rattle.kola_laws.specs.Truth.{truth, and_true, and_false, or_true, or_false, and_same, and_comm, or_comm};
+ghost use Rattle.kola_laws.specs.Truth.{and_assoc, or_assoc, not_not, not_true, not_and, not_or, and_or};
 ghost use Rattle.kola_laws.specs.Making.{MakesRule};
 
 use crate::maker::{MadeRule, Maker, add};
@@ -32,7 +33,7 @@ pub fn truth(m: Maker, rules: &mut Vec<Rule>) -> Result<(), Memory>
 
 /// `(p & KP(true)) = p`
 fn and_true(m: Maker) -> MadeRule
-    ensures { MakesRule rule_tree result and_true }
+    ensures { MakesRule result and_true }
 {
     let vars = m.pred_var("p", m.ty("a"), m.no_vars());
     let input = m.ty("a");
@@ -43,7 +44,7 @@ fn and_true(m: Maker) -> MadeRule
 
 /// `(p & KP(false)) = KP(false)`
 fn and_false(m: Maker) -> MadeRule
-    ensures { MakesRule rule_tree result and_false }
+    ensures { MakesRule result and_false }
 {
     let vars = m.pred_var("p", m.ty("a"), m.no_vars());
     let input = m.ty("a");
@@ -54,7 +55,7 @@ fn and_false(m: Maker) -> MadeRule
 
 /// `(p | KP(true)) = KP(true)`
 fn or_true(m: Maker) -> MadeRule
-    ensures { MakesRule rule_tree result or_true }
+    ensures { MakesRule result or_true }
 {
     let vars = m.pred_var("p", m.ty("a"), m.no_vars());
     let input = m.ty("a");
@@ -65,7 +66,7 @@ fn or_true(m: Maker) -> MadeRule
 
 /// `(p | KP(false)) = p`
 fn or_false(m: Maker) -> MadeRule
-    ensures { MakesRule rule_tree result or_false }
+    ensures { MakesRule result or_false }
 {
     let vars = m.pred_var("p", m.ty("a"), m.no_vars());
     let input = m.ty("a");
@@ -76,7 +77,7 @@ fn or_false(m: Maker) -> MadeRule
 
 /// `(p & p) = p`
 fn and_same(m: Maker) -> MadeRule
-    ensures { MakesRule rule_tree result and_same }
+    ensures { MakesRule result and_same }
 {
     let vars = m.pred_var("p", m.ty("a"), m.no_vars());
     let input = m.ty("a");
@@ -87,7 +88,7 @@ fn and_same(m: Maker) -> MadeRule
 
 /// `(p & q) = (q & p)`
 fn and_comm(m: Maker) -> MadeRule
-    ensures { MakesRule rule_tree result and_comm }
+    ensures { MakesRule result and_comm }
 {
     let vars = m.pred_var("p", m.ty("a"), m.pred_var("q", m.ty("a"), m.no_vars()));
     let input = m.ty("a");
@@ -98,7 +99,7 @@ fn and_comm(m: Maker) -> MadeRule
 
 /// `(p | q) = (q | p)`
 fn or_comm(m: Maker) -> MadeRule
-    ensures { MakesRule rule_tree result or_comm }
+    ensures { MakesRule result or_comm }
 {
     let vars = m.pred_var("p", m.ty("a"), m.pred_var("q", m.ty("a"), m.no_vars()));
     let input = m.ty("a");
@@ -109,7 +110,7 @@ fn or_comm(m: Maker) -> MadeRule
 
 /// `((p & q) & r) = (p & (q & r))`
 fn and_assoc(m: Maker) -> MadeRule
-    ensures { MakesRule rule_tree result and_assoc }
+    ensures { MakesRule result and_assoc }
 {
     let vars = m.pred_var(
         "p",
@@ -124,7 +125,7 @@ fn and_assoc(m: Maker) -> MadeRule
 
 /// `((p | q) | r) = (p | (q | r))`
 fn or_assoc(m: Maker) -> MadeRule
-    ensures { MakesRule rule_tree result or_assoc }
+    ensures { MakesRule result or_assoc }
 {
     let vars = m.pred_var(
         "p",
@@ -139,7 +140,7 @@ fn or_assoc(m: Maker) -> MadeRule
 
 /// `~~p = p`
 fn not_not(m: Maker) -> MadeRule
-    ensures { MakesRule rule_tree result not_not }
+    ensures { MakesRule result not_not }
 {
     let vars = m.pred_var("p", m.ty("a"), m.no_vars());
     let input = m.ty("a");
@@ -150,7 +151,7 @@ fn not_not(m: Maker) -> MadeRule
 
 /// `~KP(true) = KP(false)`
 fn not_true(m: Maker) -> MadeRule
-    ensures { MakesRule rule_tree result not_true }
+    ensures { MakesRule result not_true }
 {
     let vars = m.no_vars();
     let input = m.ty("a");
@@ -161,7 +162,7 @@ fn not_true(m: Maker) -> MadeRule
 
 /// `~(p & q) = (~p | ~q)`
 fn not_and(m: Maker) -> MadeRule
-    ensures { MakesRule rule_tree result not_and }
+    ensures { MakesRule result not_and }
 {
     let vars = m.pred_var("p", m.ty("a"), m.pred_var("q", m.ty("a"), m.no_vars()));
     let input = m.ty("a");
@@ -172,7 +173,7 @@ fn not_and(m: Maker) -> MadeRule
 
 /// `~(p | q) = (~p & ~q)`
 fn not_or(m: Maker) -> MadeRule
-    ensures { MakesRule rule_tree result not_or }
+    ensures { MakesRule result not_or }
 {
     let vars = m.pred_var("p", m.ty("a"), m.pred_var("q", m.ty("a"), m.no_vars()));
     let input = m.ty("a");
@@ -183,7 +184,7 @@ fn not_or(m: Maker) -> MadeRule
 
 /// `((p | q) & r) = ((p & r) | (q & r))`
 fn and_or(m: Maker) -> MadeRule
-    ensures { MakesRule rule_tree result and_or }
+    ensures { MakesRule result and_or }
 {
     let vars = m.pred_var(
         "p",

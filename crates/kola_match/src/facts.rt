@@ -12,17 +12,15 @@ ghost use Rattle.kola_match.specs.Occurring.{variable, Occurs};
 ghost use Rattle.kola_match.specs.Substitutions.{Substitution, sub_type, inst, IsTyped};
 
 /// Under a well-formed schema, an instance of a typed term by a typed substitution is typed, at the instance of its
-/// input
-/// type and with that of its output type.
+/// input type and with that of its output type.
 pub fn typed_substitutions_keep_types()
     ensures { (S : Classes) → is_schema S ≡ true → (x y : Context) (s : Substitution) → IsTyped S y s x →
         (t : TermTree) (u w : TypeTree) → kind_out S x t u ≡ Some w →
         kind_out S y (inst s t) (sub_type s.types u) ≡ Some (sub_type s.types w) }
 {}
 
-/// An instance has the instances of a term's parts at the same paths, exchanged alike; and under a well-formed
-/// schema, by
-/// a typed substitution, with the instances of their input types.
+/// An instance has the instances of a term's parts at the same paths, exchanged alike; and under a well-formed schema,
+/// by a typed substitution, with the instances of their input types.
 pub fn places_go_with_substitutions()
     ensures parts { (s : Substitution) (q : List ℕ) (t l : TermTree) → sub_at t q ≡ Some l →
         sub_at (inst s t) q ≡ Some (inst s l) }

@@ -21,8 +21,8 @@ fn is_variable(part: SubTerm, name: &Name, meta: &MetaTy) -> bool
     }
 }
 
-/// Whether the variable stands in the part. The path to a place where it does is put behind `path`, which else stays
-/// as it was.
+/// Whether the variable stands in the part. The path to a place where it does is put behind `path`, which else stays as
+/// it was.
 #[cycle(find)]
 pub(crate) fn find(
     part: SubTerm,

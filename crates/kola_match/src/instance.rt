@@ -83,11 +83,9 @@ fn other_of<'a>(rule: &'a Rule, rev: bool) -> SubTerm<'a>
     }
 }
 
-/// What an instance of the rule gives for its variables, where the side that is matched gives the term, at its type
-/// in a context;
-/// `None` exactly where there is no instance. With `rev` the right side is matched. The tally rises by one, whatever
-/// is answered.
-/// Where a node of the term differs from the side's it takes no memory.
+/// What an instance of the rule gives for its variables, where the side that is matched gives the term, at its type in
+/// a context; `None` exactly where there is no instance. With `rev` the right side is matched. The tally rises by one,
+/// whatever is answered. Where a node of the term differs from the side's it takes no memory.
 pub fn match_at(
     alloc: Global,
     schema: &Schema,
@@ -121,10 +119,8 @@ pub fn match_at(
 }
 
 /// What an instance of the rule gives for its variables, where the side that is matched gives the first term and the
-/// other side
-/// the second, both at their type in a context; `None` exactly where no one instance gives both. With `rev` the
-/// right side is
-/// matched.
+/// other side the second, both at their type in a context; `None` exactly where no one instance gives both. With `rev`
+/// the right side is matched.
 pub fn match_both(
     alloc: Global,
     schema: &Schema,

@@ -15,8 +15,7 @@ use kola_term::SubTerm;
 use kola_values::Ty;
 
 /// Whether the part may be an instance of the pattern: whether each node of the pattern that is no variable has the
-/// same node
-/// beside it. It takes no memory.
+/// same node beside it. It takes no memory.
 pub(crate) fn may_match(pattern: SubTerm, part: SubTerm) -> bool
     ensures { result ≡ false → (s : Substitution) → inst s (sub_tree pattern.entry) ≡ sub_tree part.entry → ⊥ }
 {

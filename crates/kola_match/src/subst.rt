@@ -221,8 +221,7 @@ fn boxed_pred(alloc: Global, p: &Pred, s: &Subst) -> Result<Box<Pred>, Memory>
 }
 
 /// A side of a rule under a substitution that was found. A variable of which the substitution knows nothing becomes
-/// `id`, `eq`
-/// or `true`, by its kind.
+/// `id`, `eq` or `true`, by its kind.
 pub fn instantiate(alloc: Global, side: &Term, s: &Subst) -> Result<Term, Memory>
     ensures { IfOk result (λ r. term_tree r ≡ inst (substitution_of (found_binds s.now)) (term_tree side.now)) }
 {

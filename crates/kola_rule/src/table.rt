@@ -1,6 +1,7 @@
 //! Tables of rules, each found by its name.
 
-ghost use Rattle.std.specs.Prelude.{◌≡◌, [], ◌∷◌, ◌++◌, false, length, position, slice_get, true, IfOk, OnOk, OnErr, IfErr};
+ghost use Rattle.std.specs.Prelude.{◌≡◌, [], ◌∷◌, ◌++◌, false, true, length, position, slice_get};
+ghost use Rattle.std.specs.Prelude.{IfOk, OnOk, OnErr, IfErr};
 ghost use Rattle.std.specs.Option.{option_copied};
 ghost use Rattle.std.specs.Str.{bytes_eq};
 ghost use Rattle.kola_core.specs.NameLists.{is_listed};
@@ -14,7 +15,8 @@ use kola_core::{Memory, Name, NameTable};
 use std::alloc::Global;
 use std::marker::Model;
 
-/// Rules with distinct names, each found by its name in constant expected time. Contracts see it as the list of its rules.
+/// Rules with distinct names, each found by its name in constant expected time. Contracts see it as the list of its
+/// rules.
 #[derive(Drop)]
 pub struct RuleTable {
     rules: Vec<Rule>,
@@ -93,15 +95,16 @@ impl RuleTable {
         self.rules.get(n)
     }
 
-    /// The place of the rule of a name, counted from 0; `None` where no rule has the name. It takes constant expected time.
+    /// The place of the rule of a name, counted from 0; `None` where no rule has the name. It takes constant expected
+    /// time.
     pub fn find(&self, name: &Name) -> Option<usize>
         ensures { result ≡ position (bytes_eq name.now) (rule_names self.now) }
     {
         self.names.place(name.as_text())
     }
 
-    /// Adds a rule at the end. No rule of the table may have its name. Where memory is wanted, the table stays as it was, and
-    /// the rule is handed back.
+    /// Adds a rule at the end. No rule of the table may have its name. Where memory is wanted, the table stays as it
+    /// was, and the rule is handed back.
     pub fn push(&mut self, rule: Rule) -> Result<(), (Memory, Rule)>
         requires { is_listed rule.name (rule_names self.old) ≡ false }
         ensures ok { OnOk result (self.new ≡ self.old ++ rule ∷ []) }

@@ -1,1 +1,4 @@
 pub mod QueryTrees
+pub mod Alphabet
+pub mod Tails
+pub mod QueryReaders

@@ -1,1 +1,2 @@
 pub mod QueryExamples
+pub mod QuerySymbols

@@ -1,2 +1,4 @@
 pub mod QueryExamples
 pub mod QuerySymbols
+pub mod GoesOn
+pub mod LevelLaws

@@ -424,3 +424,146 @@ opennot_good {On} {n} {m} {o} {o'} {l} {l'} b le z =
     let one = cmp_good le z (done_good On name_tree) in
     eat_good (λ t. opennot_move n b o (kind t) t.at) (λ t. opennot_move m b o' (kind t) t.at) (λ t. NotRest n b l (kind t) t.at) (λ t. NotRest m b l' (kind t) t.at) goes_not (λ t. not_each b le z (kind t) t.at)
     (not_some n b l one.low.some) (not_some m b l' one.high.some)
+
+-- ---- chains of and, and of or
+
+abbrev pub AndLinks : Lang Placed Tailed → Tail → ℕ → Kind → Lang Placed (ℕ × QueryTree × Tail)
+AndLinks L Plain at (KWord q.And) = Made (placed_operand at) L
+AndLinks L Compared at (KWord q.And) = Made (placed_operand at) L
+AndLinks L _ at _ = no_text
+
+abbrev pub OrLinks : Lang Placed Tailed → Tail → ℕ → Kind → Lang Placed (ℕ × QueryTree × Tail)
+OrLinks L Plain at (KWord q.Or) = Made (placed_operand at) L
+OrLinks L Compared at (KWord q.Or) = Made (placed_operand at) L
+OrLinks L _ at _ = no_text
+
+abbrev pub AndFrom : ℕ → Lang Placed Tailed → Lang Placed Tailed → Lang Placed Tailed
+AndFrom n L P = Made (joined QAnd) (Chained (Made first_operand P) (λ x. ChainText (λ (x : OperandsTailed) t. AndLinks L x.2 t.at (kind t)) more_operands n x))
+
+abbrev pub OrFrom : ℕ → Lang Placed Tailed → Lang Placed Tailed → Lang Placed Tailed
+OrFrom n L P = Made (joined QOr) (Chained (Made first_operand P) (λ x. ChainText (λ (x : OperandsTailed) t. OrLinks L x.2 t.at (kind t)) more_operands n x))
+
+abbrev link_not : ℕ × QueryTree × Tail → Placed → Bool
+link_not l t = on_not l.2 (kind t)
+
+abbrev link_and : ℕ × QueryTree × Tail → Placed → Bool
+link_and l t = on_and l.2 (kind t)
+
+abbrev link_full : ℕ × QueryTree × Tail → Placed → Bool
+link_full l t = on_full l.2 (kind t)
+
+and_links : {On : Type 0} {p r : Reader Tailed} {L M : Lang Placed Tailed} → Good On p r L M goes_not → (x : Tail) (at : ℕ) (k : Kind)
+    → LinkGood On (and_move p x at k) (and_move r x at k) (AndLinks L x at k) (AndLinks M x at k) link_not (on_not x k) (on_and x k)
+and_links h Plain at (KWord q.And) = (made_good (placed_operand at) link_not h, refl, refl)
+and_links h Plain at _ = (nothing, nothing, refl)
+and_links h Compared at (KWord q.And) = (made_good (placed_operand at) link_not h, refl, refl)
+and_links h Compared at _ = (nothing, nothing, refl)
+and_links h OpenPlain at k = (nothing, nothing, refl)
+and_links h OpenCompared at k = (nothing, nothing, refl)
+and_links h (Ranged b) at k = (nothing, nothing, refl)
+and_links h (Labelled y z) at k = (nothing, nothing, refl)
+
+or_links : {On : Type 0} {p r : Reader Tailed} {L M : Lang Placed Tailed} → Good On p r L M goes_and → (x : Tail) (at : ℕ) (k : Kind)
+    → LinkGood On (or_move p x at k) (or_move r x at k) (OrLinks L x at k) (OrLinks M x at k) link_and (on_and x k) (on_full x k)
+or_links h Plain at (KWord q.Or) = (made_good (placed_operand at) link_and h, refl, refl)
+or_links h Plain at _ = (nothing, nothing, refl)
+or_links h Compared at (KWord q.Or) = (made_good (placed_operand at) link_and h, refl, refl)
+or_links h Compared at _ = (nothing, nothing, refl)
+or_links h OpenPlain at k = (nothing, nothing, refl)
+or_links h OpenCompared at k = (nothing, nothing, refl)
+or_links h (Ranged b) at k = (nothing, nothing, refl)
+or_links h (Labelled y z) at k = (nothing, nothing, refl)
+
+and_good : {On : Type 0} {n m : ℕ} {a c p r : Reader Tailed} {L M P R : Lang Placed Tailed} → (On → n < m) → Good On a c L M goes_not → Good On p r P R goes_not
+    → Good On (and_from n a p) (and_from m c r) (AndFrom n L P) (AndFrom m M R) goes_and
+and_good {On} {n} {m} {a} {c} {p} {r} {L} {M} {P} {R} le operand h =
+    made_good (joined QAnd) goes_and
+    (chained_good On (λ (x : OperandsTailed) t. and_move a x.2 t.at (kind t)) (λ (x : OperandsTailed) t. and_move c x.2 t.at (kind t)) (λ (x : OperandsTailed) t. AndLinks L x.2 t.at (kind t)) (λ (x : OperandsTailed) t. AndLinks M x.2 t.at (kind t)) more_operands
+      (λ x t. on_not x.2 (kind t)) (λ x t. on_and x.2 (kind t)) link_not (λ x l t. refl) (λ x t. and_links operand x.2 t.at (kind t)) (made first_operand p) (made first_operand r) (Made first_operand P) (Made first_operand R) n m le
+      (made_good first_operand (λ x t. on_not x.2 (kind t)) h))
+
+or_good : {On : Type 0} {n m : ℕ} {a c p r : Reader Tailed} {L M P R : Lang Placed Tailed} → (On → n < m) → Good On a c L M goes_and → Good On p r P R goes_and
+    → Good On (or_from n a p) (or_from m c r) (OrFrom n L P) (OrFrom m M R) goes_full
+or_good {On} {n} {m} {a} {c} {p} {r} {L} {M} {P} {R} le operand h =
+    made_good (joined QOr) goes_full
+    (chained_good On (λ (x : OperandsTailed) t. or_move a x.2 t.at (kind t)) (λ (x : OperandsTailed) t. or_move c x.2 t.at (kind t)) (λ (x : OperandsTailed) t. OrLinks L x.2 t.at (kind t)) (λ (x : OperandsTailed) t. OrLinks M x.2 t.at (kind t)) more_operands
+      (λ x t. on_and x.2 (kind t)) (λ x t. on_full x.2 (kind t)) link_and (λ x l t. refl) (λ x t. or_links operand x.2 t.at (kind t)) (made first_operand p) (made first_operand r) (Made first_operand P) (Made first_operand R) n m le
+      (made_good first_operand (λ x t. on_and x.2 (kind t)) h))
+
+abbrev pub OpenAnd : ℕ → Bool → Inner → Lang Placed Tailed
+OpenAnd n b l = AndFrom n (OpenNot n b l) (OpenNot n b l)
+
+abbrev pub OpenOrFrom : ℕ → Bool → Inner → Lang Placed Tailed → Lang Placed Tailed
+OpenOrFrom n b l P = OrFrom n (OpenAnd n b l) (AndFrom n (OpenNot n b l) P)
+
+openor_good : {On : Type 0} {n m : ℕ} {o o' : Option Level} {l l' : Inner} {p r : Reader Tailed} {P R : Lang Placed Tailed} (b : Bool) → (On → n < m) → Inside On o o' l l' → Good On p r P R goes_not
+    → Good On (openor_from n b o p) (openor_from m b o' r) (OpenOrFrom n b l P) (OpenOrFrom m b l' R) goes_full
+openor_good b le z h = let one = opennot_good b le z in or_good le (and_good le one one) (and_good le one h)
+
+no_openor : (n : ℕ) (b : Bool) (l : Inner) (P : Lang Placed Tailed) → NoText P → NoText (OpenOrFrom n b l P)
+no_openor n b l P h = no_made _ (no_chained _ (no_made _ (no_made _ (no_chained _ (no_made _ h)))))
+
+-- ---- selects
+
+abbrev pub WhereLinks : Lang Placed Tailed → QueryWhere → Tail → ℕ → Kind → Lang Placed (ℕ × QueryTree × Tail)
+WhereLinks L NoWhere (Ranged b) at (KWord q.Where) = Made (placed_operand at) L
+WhereLinks L _ _ at _ = no_text
+
+abbrev pub SelectRest : ℕ → Bool → Texts → ℕ → QueryTree → Lang Placed Tailed
+SelectRest n b L at h = Made (selected at h) (Chained (Made no_where (L.ranges b)) (λ x. ChainText (λ (x : SelectParts) t. WhereLinks (L.full b) x.1 x.2 t.at (kind t)) with_where (suc n) x))
+
+abbrev pub Select : ℕ → Bool → ℕ → Texts → Lang Placed Tailed
+Select n b at L = Ahead (KWord q.Distinct) (Chained (L.full false) (λ h. Ahead (KWord q.From) (SelectRest n b L at h.0)))
+
+where_links : {On : Type 0} {p r : Reader Tailed} {L M : Lang Placed Tailed} → Good On p r L M goes_full → (w : QueryWhere) (x : Tail) (at : ℕ) (k : Kind)
+    → LinkGood On (where_move p w x at k) (where_move r w x at k) (WhereLinks L w x at k) (WhereLinks M w x at k) link_full (on_part w x k) (on_full x k)
+where_links h NoWhere (Ranged b) at (KWord q.Where) = (made_good (placed_operand at) link_full h, refl, range_where b)
+  where
+    range_where : (b : Bool) → ranges_by b (KWord q.Where) ≡ false
+    range_where true = refl
+    range_where false = refl
+where_links h NoWhere (Ranged b) at _ = (nothing, nothing, refl)
+where_links h NoWhere Plain at k = (nothing, nothing, refl)
+where_links h NoWhere Compared at k = (nothing, nothing, refl)
+where_links h NoWhere OpenPlain at k = (nothing, nothing, refl)
+where_links h NoWhere OpenCompared at k = (nothing, nothing, refl)
+where_links h NoWhere (Labelled y z) at k = (nothing, nothing, refl)
+where_links h (Where p e) x at k = (nothing, nothing, refl)
+
+select_rest_good : {On : Type 0} {n m : ℕ} {i j : Level} {L M : Texts} (b : Bool) (at : ℕ) (e : QueryTree) → (On → n < m) → LevelGood On i j L M
+    → Good On (select_rest n i b at e) (select_rest m j b at e) (SelectRest n b L at e) (SelectRest m b M at e) goes_full
+select_rest_good {On} {n} {m} {i} {j} {L} {M} b at e le h =
+    made_good (selected at e) goes_full
+    (chained_good On (λ (x : SelectParts) t. where_move (i.full b) x.1 x.2 t.at (kind t)) (λ (x : SelectParts) t. where_move (j.full b) x.1 x.2 t.at (kind t))
+      (λ (x : SelectParts) t. WhereLinks (L.full b) x.1 x.2 t.at (kind t)) (λ (x : SelectParts) t. WhereLinks (M.full b) x.1 x.2 t.at (kind t)) with_where
+      (λ x t. on_part x.1 x.2 (kind t)) (λ x t. on_full x.2 (kind t)) link_full (λ x l t. opened_same l.2 (kind t)) (λ x t. where_links (h.full b) x.1 x.2 t.at (kind t))
+      (made no_where (i.ranges b)) (made no_where (j.ranges b)) (Made no_where (L.ranges b)) (Made no_where (M.ranges b)) (suc n) (suc m) (λ on. let f = le on in omega (arith, f))
+      (made_good no_where (λ x t. on_part x.1 x.2 (kind t)) (h.ranges b)))
+
+pub select_good : {On : Type 0} {n m : ℕ} {i j : Level} {L M : Texts} (b : Bool) (at : ℕ) → (On → n < m) → LevelGood On i j L M → Good On (select n i b at) (select m j b at) (Select n b at L) (Select m b at M) goes_full
+select_good b at le h = ahead_word q.Distinct refl (after_word q.From refl (λ v t e. ap (on_full v.1) e ∙ from_full v.1) (h.full false) (λ v. select_rest_good b at v.0 le h))
+
+-- ---- where full stands
+
+abbrev pub FullRest : ℕ → Bool → Inner → Kind → ℕ → Lang Placed Tailed
+FullRest n b l (KWord q.Select) at = Deeper l (Select n b at)
+FullRest n b l k at = OpenOrFrom n b l (NotRest n b l k at)
+
+full_each : {On : Type 0} {n m : ℕ} {o o' : Option Level} {l l' : Inner} (b : Bool) → (On → n < m) → Inside On o o' l l' → (k : Kind) (at : ℕ)
+    → MoveGood On (full_move n b o k at) (full_move m b o' k at) (FullRest n b l k at) (FullRest m b l' k at) goes_full
+full_each {On} {n} {m} b le z (KWord q.Select) at = deeper_good _ _ _ _ goes_full z (λ Off f i j L M h. select_good b at (λ off. le (f off)) h)
+full_each {On} {n} {m} {o} {o'} {l} {l'} b le z k at =
+    led_good On (opennot_move n b o k at) (opennot_move m b o' k at) (NotRest n b l k at) (NotRest m b l' k at) goes_not (openor_from n b o) (openor_from m b o') (OpenOrFrom n b l) (OpenOrFrom m b l') goes_full
+    (λ Off f p r P R h. openor_good b (λ off. le (f off)) (inside_weaker f z) h) (no_openor n b l) (no_openor m b l') (not_each b le z k at)
+
+abbrev pub Full : ℕ → Bool → Inner → Lang Placed Tailed
+Full n b l = Led (λ t. FullRest n b l (kind t) t.at)
+
+full_some : (n : ℕ) (b : Bool) (l : Inner) → Inhabited (OpenOrFrom n b l (CmpFrom n l (Nothing name_tree))) → Inhabited (Full n b l)
+full_some n b l h = record { tree = h.tree; text = name_token ∷ h.text; spells = named_first (FullRest n b l) h.tree h.text h.spells }
+
+pub full_good : {On : Type 0} {n m : ℕ} {o o' : Option Level} {l l' : Inner} (b : Bool) → (On → n < m) → Inside On o o' l l' → Good On (full n b o) (full m b o') (Full n b l) (Full m b l') goes_full
+full_good {On} {n} {m} {o} {o'} {l} {l'} b le z =
+    let one = openor_good b le z (cmp_good le z (done_good On name_tree)) in
+    eat_good (λ t. full_move n b o (kind t) t.at) (λ t. full_move m b o' (kind t) t.at) (λ t. FullRest n b l (kind t) t.at) (λ t. FullRest m b l' (kind t) t.at) goes_full (λ t. full_each b le z (kind t) t.at)
+    (full_some n b l one.low.some) (full_some m b l' one.high.some)

@@ -2,3 +2,4 @@ pub mod QueryExamples
 pub mod QuerySymbols
 pub mod GoesOn
 pub mod LevelLaws
+pub mod RangeLaws

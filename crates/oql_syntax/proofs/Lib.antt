@@ -3,3 +3,4 @@ pub mod QuerySymbols
 pub mod GoesOn
 pub mod LevelLaws
 pub mod RangeLaws
+pub mod WholeQueryLaws

@@ -1,5 +1,5 @@
 -- Reading queries, computed: trees of texts, and where texts are at fault. In these texts a blank stands between each two tokens.
-use Rattle.std.proofs.Common.{◌≡◌, ℕ, ◌+◌, pos, Bool, true, false, List, [], ◌∷◌, length, Result, Ok, Err, refl, codes, ◌==◌}
+use Rattle.std.proofs.Common.{◌≡◌, ℕ, ◌+◌, pos, Bool, true, false, List, [], ◌∷◌, length, Some, None, Result, Ok, Err, refl, codes, ◌==◌}
 use Rattle.std.specs.Prelude.{is_some}
 use Rattle.std.specs.List.{slice_split}
 use Rattle.std.specs.Str.{all_ascii_digits}
@@ -14,6 +14,7 @@ use Rattle.kola_parse.specs.Reader.{Fault, whole}
 use Rattle.oql_syntax.specs.Alphabet.{query_words, query_word_named}
 use Rattle.oql_syntax.specs.QueryTrees.{LitInt, LitBool, QueryTree, QName, QLiteral, QSetOf, QPath, QStruct, QFlatten, QSomeMember, QNot, QIntersect, QAnd, QOr, QUnionExcept, QCompare, QExists, QForAll, QSelect, NoLinks, Link, NoSets, SetLink, NoFields, QField, NoRanges, QRange, NoWhere, Where}
 use Rattle.oql_syntax.specs.QueryReaders.{query}
+use Rattle.oql_syntax.specs.QueryFaults.{word_outside}
 use Rattle.oql_syntax.specs.declared.query.Sign.TheVariants as c
 
 -- what the bytes between two blanks say
@@ -176,3 +177,39 @@ a_struct_or_a_label = refl
 a_level_for_all : read 1 (codes "for all x in ( A ) : x") ≡ At 13 TooDeep
 unfolding read seen text lexemes_from said sign_named signs query_word_named query_words is_among
 a_level_for_all = refl
+
+-- ---- words outside of the profile
+
+-- behind a select it is that word, also where another one is left out
+a_select_without_distinct : word_outside (text (codes "exists ( SELECT")) (text (codes "first")) ≡ Some (codes "select")
+unfolding text lexemes_from said sign_named signs query_word_named query_words is_among
+a_select_without_distinct = refl
+
+a_select_at_the_end : word_outside (text (codes "a union ( select")) ([]) ≡ Some (codes "select")
+unfolding text lexemes_from said sign_named signs query_word_named query_words is_among
+a_select_at_the_end = refl
+
+a_word_left_out : word_outside (text (codes "a union")) (text (codes "First")) ≡ Some (codes "First")
+unfolding text lexemes_from said sign_named signs query_word_named query_words is_among
+a_word_left_out = refl
+
+a_word_left_out_at_the_front : word_outside ([]) (text (codes "Count ( a )")) ≡ Some (codes "Count")
+unfolding text lexemes_from said sign_named signs query_word_named query_words is_among
+a_word_left_out_at_the_front = refl
+
+-- labels
+a_select_in_a_path : word_outside (text (codes "x -> select")) (text (codes "5")) ≡ None
+unfolding text lexemes_from said sign_named signs query_word_named query_words is_among
+a_select_in_a_path = refl
+
+a_select_as_the_first_label : word_outside (text (codes "struct ( select")) (text (codes "5")) ≡ None
+unfolding text lexemes_from said sign_named signs query_word_named query_words is_among
+a_select_as_the_first_label = refl
+
+a_select_as_a_later_label : word_outside (text (codes "struct ( a : b , select")) (text (codes "first")) ≡ Some (codes "first")
+unfolding text lexemes_from said sign_named signs query_word_named query_words is_among
+a_select_as_a_later_label = refl
+
+no_select : word_outside (text (codes "( a union")) (text (codes "select")) ≡ None
+unfolding text lexemes_from said sign_named signs query_word_named query_words is_among
+no_select = refl

@@ -1,26 +1,26 @@
 -- The fields of a struct, all levels, and whole queries: what is read of them, and the first fault.
-use Rattle.std.proofs.Common.{◌≡◌, ◌⊎◌, ℕ, zero, suc, ◌<◌, Bool, true, false, List, [], ◌∷◌, ◌++◌, Option, Some, None, Ok, Err, refl, sym, ap, subst, ◌∙◌, arith}
+use Rattle.std.proofs.Common.{◌≡◌, ℕ, zero, suc, ◌<◌, Bool, true, false, List, [], ◌∷◌, ◌++◌, Option, None, refl, sym, ap, subst, ◌∙◌, arith}
 use Rattle.std.proofs.lemmas.List.{append-nil}
-use Rattle.kola_base.specs.Named.{Named, NameText, name_at}
+use Rattle.kola_base.specs.Named.{NameText}
 use Rattle.kola_base.specs.Placed.{Placed}
 use Rattle.kola_base.specs.declared.sign.Sign.TheVariants as s
 use Rattle.kola_base.proofs.NamedLaws.{name_good}
-use Rattle.kola_parse.specs.Kinds.{Lang, leads, ahead}
-use Rattle.kola_parse.specs.Moves.{NoText, MoveGood, MayGood}
-use Rattle.kola_parse.specs.Reader.{Answer, Fault, then, Move, Stray, Deep, Goes, eat, done, made, may, stop, whole, Round, Again, Final, rounds}
+use Rattle.kola_parse.specs.Kinds.{Lang}
+use Rattle.kola_parse.specs.Moves.{MoveGood, MayGood}
+use Rattle.kola_parse.specs.Reader.{eat, may, Again, Final}
 use Rattle.kola_parse.specs.Reading.{Ends, never, Inhabited, Good}
 use Rattle.kola_parse.specs.Texts.{ends, Nothing, Chained, Made, Led, Maybe, ChainText, RoundsText}
 use Rattle.kola_parse.proofs.ReaderLaws.{ends_none, nil_of}
 use Rattle.kola_parse.proofs.GoodReaders.{done_good, next_good, then_good, eat_good}
 use Rattle.kola_parse.proofs.Options.{may_good, stop_good}
 use Rattle.kola_parse.proofs.Rounds.{rounds_good}
-use Rattle.oql_syntax.specs.Alphabet.{Kind, KSign, KWord, KName, kind}
-use Rattle.oql_syntax.specs.QueryTrees.{QueryTree, QName}
-use Rattle.oql_syntax.specs.QueryReaders.{Reader, Tailed, FieldParts, Level, FieldState, FieldRound, next_field, next_label, field_move, last_move, field_end, add_field, field, first_field, fields, level, below, Closing, semicolon_move, ending, full, query, no_labels, no_operands, no_set_operands, plain, first_operand, joined}
+use Rattle.oql_syntax.specs.Alphabet.{Kind, KSign, kind}
+use Rattle.oql_syntax.specs.QueryTrees.{QueryTree}
+use Rattle.oql_syntax.specs.QueryReaders.{Reader, Tailed, FieldParts, Level, FieldState, FieldRound, next_field, field_move, last_move, field_end, add_field, field, first_field, fields, level, below, Closing, semicolon_move, ending, full, query, no_labels, no_operands, no_set_operands, first_operand}
 use Rattle.oql_syntax.specs.Tails.{Tail, Plain, Compared, OpenPlain, OpenCompared, Ranged, Labelled}
 use Rattle.oql_syntax.proofs.QuerySymbols.{sign_token, sign_is, Ahead, ahead_sign, no_text, nothing, name_token}
 use Rattle.oql_syntax.proofs.GoesOn.{on_full, semicolon_full}
-use Rattle.oql_syntax.proofs.LevelLaws.{Texts, goes_full, LevelGood, Inner, Nowhere, Level_of, Inside, bare, first, both, name_tree, named_first, PathBy, MeetBy, SetsBy, SetsFrom, Sets, CmpFrom, OpenNot, AndFrom, OrFrom, OpenOrFrom, FullRest, Full, sets_good, opennot_good, full_good}
+use Rattle.oql_syntax.proofs.LevelLaws.{Texts, goes_full, LevelGood, Inner, Nowhere, Level_of, Inside, bare, first, both, name_tree, named_first, SetsFrom, Sets, CmpFrom, OpenNot, OpenOrFrom, FullRest, Full, sets_good, opennot_good, full_good}
 use Rattle.oql_syntax.proofs.RangeLaws.{Ranges, ranges_good, done_on}
 
 -- ---- a first operand alone is a text of everything above it

@@ -2,3 +2,4 @@ pub mod QueryTrees
 pub mod Alphabet
 pub mod Tails
 pub mod QueryReaders
+pub mod QueryFaults

@@ -4,3 +4,4 @@ pub mod GoesOn
 pub mod LevelLaws
 pub mod RangeLaws
 pub mod WholeQueryLaws
+pub mod LinkedTexts

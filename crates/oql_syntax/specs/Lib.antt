@@ -3,3 +3,4 @@ pub mod Alphabet
 pub mod Tails
 pub mod QueryReaders
 pub mod QueryFaults
+pub mod Grammar

@@ -5,3 +5,4 @@ pub mod LevelLaws
 pub mod RangeLaws
 pub mod WholeQueryLaws
 pub mod LinkedTexts
+pub mod Modes

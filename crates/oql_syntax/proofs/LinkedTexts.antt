@@ -106,16 +106,16 @@ pub fits : (b : Bool) (x : Tail) → is_open x ≡ false → Fits b x
 fits true x e = tt
 fits false x e = e
 
+-- a link is the word and an operand, behind a closed one
+abbrev pub OpenLinkTo : QueryWord → Lang Placed Tailed → (Tail → ℕ → Kind → Lang Placed (ℕ × QueryTree × Tail)) → Type 0
+OpenLinkTo word L Links = (x : Tail) (p : ℕ) (k : Kind) (l : ℕ × QueryTree × Tail) (w : List Placed) → Links x p k l w → (k ≡ KWord word) × (is_open x ≡ false) × (l.0 ≡ p) × L (l.1, l.2) w
+
+abbrev pub OpenLinkFrom : QueryWord → Lang Placed Tailed → (Tail → ℕ → Kind → Lang Placed (ℕ × QueryTree × Tail)) → Type 0
+OpenLinkFrom word L Links = (x : Tail) (p : ℕ) (e : QueryTree) (y : Tail) (w : List Placed) → is_open x ≡ false → L (e, y) w → Links x p (KWord word) (p, e, y) w
+
 module _ (word : QueryWord) (L : Lang Placed Tailed) (Operand : Bool → QueryTree → Text) (Links : Tail → ℕ → Kind → Lang Placed (ℕ × QueryTree × Tail)) where
   abbrev OpenChain : ℕ → OperandsTailed → OperandsTailed → List Placed → Type 0
   OpenChain n a y w = ChainText (λ (x : OperandsTailed) t. Links x.2 t.at (kind t)) more_operands n a y w
-
-  -- a link is the word and an operand, behind a closed one
-  abbrev pub OpenLinkTo : Type 0
-  OpenLinkTo = (x : Tail) (p : ℕ) (k : Kind) (l : ℕ × QueryTree × Tail) (w : List Placed) → Links x p k l w → (k ≡ KWord word) × (is_open x ≡ false) × (l.0 ≡ p) × L (l.1, l.2) w
-
-  abbrev pub OpenLinkFrom : Type 0
-  OpenLinkFrom = (x : Tail) (p : ℕ) (e : QueryTree) (y : Tail) (w : List Placed) → is_open x ≡ false → L (e, y) w → Links x p (KWord word) (p, e, y) w
 
   abbrev pub OperandTo : Type 0
   OperandTo = (b : Bool) (e : QueryTree) (x : Tail) (w : List Placed) → Fits b x → L (e, x) w → Operand b e w
@@ -123,7 +123,7 @@ module _ (word : QueryWord) (L : Lang Placed Tailed) (Operand : Bool → QueryTr
   abbrev pub OperandFrom : Type 0
   OperandFrom = (b : Bool) (e : QueryTree) (w : List Placed) → Operand b e w → (x : Tail) × Fits b x × L (e, x) w
 
-  open_to : OpenLinkTo → OperandTo → (b : Bool) (n : ℕ) (e : QueryTree) (ls : List (ℕ × QueryTree)) (x : Tail) (c : QueryTree) (u : List Placed) (y : OperandsTailed) (w : List Placed) → Fits b y.2 → L (c, x) u → OpenChain n (e, ls, x) y w
+  open_to : OpenLinkTo word L Links → OperandTo → (b : Bool) (n : ℕ) (e : QueryTree) (ls : List (ℕ × QueryTree)) (x : Tail) (c : QueryTree) (u : List Placed) (y : OperandsTailed) (w : List Placed) → Fits b y.2 → L (c, x) u → OpenChain n (e, ls, x) y w
       → (ks : List (ℕ × QueryTree)) × (y.0 ≡ e) × (y.1 ≡ ls ++ ks) × (length ks ≤ n) × OperandsText word Operand b c ks (u ++ w)
   open_to link operand b zero e ls x c u y [] f o h =
       ([], ap (λ (z : OperandsTailed). z.0) h, ap (λ (z : OperandsTailed). z.1) h ∙ sym (append-nil ls), omega arith, subst (Operand b c) (sym (append-nil u)) (operand b c x u (subst (Fits b) (ap (λ (z : OperandsTailed). z.2) h) f) o))
@@ -151,7 +151,7 @@ module _ (word : QueryWord) (L : Lang Placed Tailed) (Operand : Bool → QueryTr
   abbrev pub OpenWhole : (ℕ → QueryTree → QueryLinks → QueryTree) → ℕ → Lang Placed Tailed
   OpenWhole make n = Made (joined make) (Chained (Made first_operand L) (λ x. ChainText (λ (x : OperandsTailed) t. Links x.2 t.at (kind t)) more_operands n x))
 
-  pub open_linked_to : OpenLinkTo → OperandTo → (make : ℕ → QueryTree → QueryLinks → QueryTree) (n : ℕ) (b : Bool) (e : QueryTree) (x : Tail) (w : List Placed) → Fits b x → OpenWhole make n (e, x) w → OpenLinkedText n word Operand make b e w
+  pub open_linked_to : OpenLinkTo word L Links → OperandTo → (make : ℕ → QueryTree → QueryLinks → QueryTree) (n : ℕ) (b : Bool) (e : QueryTree) (x : Tail) (w : List Placed) → Fits b x → OpenWhole make n (e, x) w → OpenLinkedText n word Operand make b e w
   open_linked_to link operand build n b e x w f h =
       let c = h.spells in
       let v = c.first.part in
@@ -179,7 +179,7 @@ module _ (word : QueryWord) (L : Lang Placed Tailed) (Operand : Bool → QueryTr
   no_more zero e ls x = ap (λ (z : List (ℕ × QueryTree)). (e, z, x)) (append-nil ls)
   no_more (suc n) e ls x = ap (λ (z : List (ℕ × QueryTree)). (e, z, x)) (append-nil ls)
 
-  open_from : OpenLinkFrom → OperandFrom → (b : Bool) (ks : List (ℕ × QueryTree)) (n : ℕ) (e : QueryTree) (ls : List (ℕ × QueryTree)) (c : QueryTree) (w : List Placed) → length ks ≤ n → OperandsText word Operand b c ks w → Begun b n e ls c ks w
+  open_from : OpenLinkFrom word L Links → OperandFrom → (b : Bool) (ks : List (ℕ × QueryTree)) (n : ℕ) (e : QueryTree) (ls : List (ℕ × QueryTree)) (c : QueryTree) (w : List Placed) → length ks ≤ n → OperandsText word Operand b c ks w → Begun b n e ls c ks w
   open_from link operand b [] n e ls c w le h =
       let o = operand b c w h in
       record { tail = o.0; last = o.0; front = w; back = []; split = sym (append-nil w); spells = o.2; more = no_more n e ls o.0; fit = o.1 }
@@ -212,7 +212,7 @@ module _ (word : QueryWord) (L : Lang Placed Tailed) (Operand : Bool → QueryTr
             fit = r.fit;
           }
 
-  pub open_linked_from : OpenLinkFrom → OperandFrom → (make : ℕ → QueryTree → QueryLinks → QueryTree) (n : ℕ) (b : Bool) (e : QueryTree) (w : List Placed) → OpenLinkedText n word Operand make b e w → (x : Tail) × Fits b x × OpenWhole make n (e, x) w
+  pub open_linked_from : OpenLinkFrom word L Links → OperandFrom → (make : ℕ → QueryTree → QueryLinks → QueryTree) (n : ℕ) (b : Bool) (e : QueryTree) (w : List Placed) → OpenLinkedText n word Operand make b e w → (x : Tail) × Fits b x × OpenWhole make n (e, x) w
   open_linked_from link operand build n b e w h =
       let r = open_from link operand b h.links n h.first [] h.first w h.few h.spells in
       (

@@ -6,3 +6,4 @@ pub mod RangeLaws
 pub mod WholeQueryLaws
 pub mod LinkedTexts
 pub mod Modes
+pub mod ModeLaws

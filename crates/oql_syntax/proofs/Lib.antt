@@ -6,4 +6,5 @@ pub mod RangeLaws
 pub mod WholeQueryLaws
 pub mod LinkedTexts
 pub mod Modes
+pub mod FirstParts
 pub mod ModeLaws

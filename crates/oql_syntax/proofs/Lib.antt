@@ -8,3 +8,4 @@ pub mod LinkedTexts
 pub mod Modes
 pub mod FirstParts
 pub mod ModeLaws
+pub mod NextLaws

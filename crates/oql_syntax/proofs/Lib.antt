@@ -7,5 +7,5 @@ pub mod WholeQueryLaws
 pub mod LinkedTexts
 pub mod Modes
 pub mod FirstParts
-pub mod ModeLaws
 pub mod NextLaws
+pub mod ModeLaws

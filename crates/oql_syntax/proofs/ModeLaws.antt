@@ -24,6 +24,7 @@ use Rattle.oql_syntax.proofs.LevelLaws.{Texts, Inner, Nowhere, Level_of, Deeper,
 use Rattle.oql_syntax.proofs.RangeLaws.{AsFrom, InRest, RangeRest, Range, NameNext, OnlyLabel, WholeNext, SetNext, OpenNext, WordNext, NextRest, NextText, CommaLinks, Ranges}
 use Rattle.oql_syntax.proofs.WholeQueryLaws.{texts, inner}
 use Rattle.oql_syntax.proofs.LinkedTexts.{is_open, OpenLinkTo, OpenLinkFrom}
+use Rattle.oql_syntax.proofs.NextLaws.{NextIs, next_to, next_from}
 use Rattle.oql_syntax.proofs.Modes.{LabelTail, Extends, Extended, extended, Moded, moded_none, moded_closed, moded_led, moded_ahead, moded_chained, moded_made, moded_opened, opening, moded_linked}
 
 -- ---- links
@@ -137,3 +138,121 @@ moded_or_from : (n : ℕ) (l : Inner) → ModesIn l → (P R : Lang Placed Taile
 moded_or_from n l m P R h =
     let one = moded_not n l m in
     moded_linked q.Or OrLinks or_out or_into (OpenAnd n true l) (OpenAnd n false l) (moded_and_from n l m (OpenNot n true l) (OpenNot n false l) one) QOr n (AndFrom n (OpenNot n true l) P) (AndFrom n (OpenNot n false l) R) (moded_and_from n l m P R h)
+
+-- ---- ranges
+
+abbrev CommaChain : Lang Placed Next → ℕ → RangesTailed → Lang Placed RangesTailed
+CommaChain L n a = ChainText (λ (x : RangesTailed) t. CommaLinks L x.1 (kind t)) more_ranges n a
+
+-- a comma stands behind ranges
+pub comma_out : (L : Lang Placed Next) (x : Tail) (k : Kind) (c : Next) (w : List Placed) → CommaLinks L x k c w → (b : Bool) × (x ≡ Ranged b) × (k ≡ KSign s.Comma) × L c w
+comma_out L (Ranged b) (KSign s.Comma) c w h = (b, refl, refl, h)
+comma_out L _ _ c w h = absurd h
+
+pub comma_into : (L : Lang Placed Next) (x : Tail) (k : Kind) (c : Next) (w : List Placed) (b : Bool) → x ≡ Ranged b → k ≡ KSign s.Comma → L c w → CommaLinks L x k c w
+comma_into L x k c w b e i h = subst (λ y. CommaLinks L y k c w) (sym e) (subst (λ j. CommaLinks L (Ranged b) j c w) (sym i) h)
+
+-- behind a label no range stands
+no_more_ranges : (L : Lang Placed Next) (n : ℕ) (rs : List RangeParts) (z : Named) (y : RangesTailed) (w : List Placed) → CommaChain L n (rs, Labelled z.name z.at) y w → (y ≡ (let v : RangesTailed = (rs, Labelled z.name z.at) in v)) × (w ≡ [])
+no_more_ranges L zero rs z y [] h = (h, refl)
+no_more_ranges L zero rs z y (t ∷ w) h = absurd h
+no_more_ranges L (suc n) rs z y [] h = (h, refl)
+no_more_ranges L (suc n) rs z y (t ∷ w) h = absurd h.first
+
+abbrev ThenLabel : Lang Placed Next → ℕ → RangesTailed → RangesTailed → List Placed → Type 0
+ThenLabel L n a y w = Extended (λ x. CommaChain L n a (y.0, x)) y.1 w
+
+label_tail : (x : Named) (t : Placed) (w : List Placed) → kind t ≡ KSign s.Comma → (NameText x · leads (λ t. kind t ≡ KSign s.Colon) ends) w → LabelTail x (t ∷ w)
+label_tail x t w e h = (e, h)
+
+ranges_to : (n : ℕ) (l : Inner) (m : ℕ) (a y : RangesTailed) (w : List Placed) → CommaChain (NextText n l true) m a y w → ThenLabel (NextText n l false) m a y w
+ranges_to n l zero a y [] h = extended (λ x. CommaChain (NextText n l false) zero a (y.0, x)) y.1 [] h
+ranges_to n l zero a y (t ∷ w) h = absurd h
+ranges_to n l (suc m) a y [] h = extended (λ x. CommaChain (NextText n l false) (suc m) a (y.0, x)) y.1 [] h
+ranges_to n l (suc m) a y (t ∷ w) h =
+    let g = comma_out (NextText n l true) a.1 (kind t) h.mid h.front h.first in
+    by (λ d back k. ranges_to n l m d y back k) h.mid h.front h.back h.split g.0 g.1 g.2 (next_to n l h.mid h.front g.3) h.second
+  where
+    by : ((d : RangesTailed) (back : List Placed) → CommaChain (NextText n l true) m d y back → ThenLabel (NextText n l false) m d y back)
+        → (c : Next) (u v : List Placed) → w ≡ u ++ v → (b : Bool) → a.1 ≡ Ranged b → kind t ≡ KSign s.Comma → NextIs n l c u → CommaChain (NextText n l true) m (more_ranges a c) y v → ThenLabel (NextText n l false) (suc m) a y (t ∷ w)
+    by go (ARange r) u v e b i j f k =
+        let d = go (more_ranges a (ARange r)) v k in
+        record {
+          tail = d.tail;
+          text = t ∷ (u ++ d.text);
+          more = d.more;
+          split = ap (λ (z : List Placed). t ∷ z) (e ∙ ap (λ (z : List Placed). u ++ z) d.split ∙ sym (append_assoc u d.text d.more));
+          ext = d.ext;
+          spells = record { mid = ARange r; front = u; back = d.text; split = refl; first = comma_into (NextText n l false) a.1 (kind t) (ARange r) u b i j (record { part = r; is = refl; spells = f }); second = d.spells };
+        }
+    by go (ALabel x) u v e b i j f k =
+        let d = no_more_ranges (NextText n l true) m a.0 x y v k in
+        let whole : w ≡ u = e ∙ ap (λ (z : List Placed). u ++ z) d.1 ∙ append-nil u in
+        record {
+          tail = Ranged b;
+          text = [];
+          more = t ∷ w;
+          split = refl;
+          ext = inr (b, x, refl, ap (λ (z : RangesTailed). z.1) d.0, label_tail x t w j (subst (NameText x · leads (λ t. kind t ≡ KSign s.Colon) ends) (sym whole) f));
+          spells = ap (λ (z : RangesTailed). (z.0, Ranged b)) d.0 ∙ ap (λ (z : Tail). (a.0, z)) (sym i);
+        }
+
+ranges_from : (n : ℕ) (l : Inner) (m : ℕ) (a y : RangesTailed) (x : Tail) (w u : List Placed) → Extends x y.1 u → CommaChain (NextText n l false) m a (y.0, x) w → CommaChain (NextText n l true) (suc m) a y (w ++ u)
+ranges_from n l m a y x [] u i h = by u i (stop m h)
+  where
+    stop : (m : ℕ) → CommaChain (NextText n l false) m a (y.0, x) [] → (let z : RangesTailed = (y.0, x) in z) ≡ a
+    stop zero h = h
+    stop (suc m) h = h
+
+    by : (u : List Placed) → Extends x y.1 u → (let z : RangesTailed = (y.0, x) in z) ≡ a → CommaChain (NextText n l true) (suc m) a y u
+    by [] (inl g) e = ap (λ (z : Tail). (y.0, z)) (sym g.0) ∙ e
+    by (t ∷ u) (inl g) e = absurd g.1
+    by [] (inr (b, z, f, g, k)) e = absurd k
+    by (t ∷ u) (inr (b, z, f, g, k)) e =
+        let state : y ≡ more_ranges a (ALabel z) = ap (λ (v : Tail). (y.0, v)) g ∙ ap (λ (v : RangesTailed). (v.0, Labelled z.name z.at)) e in
+        record { mid = ALabel z; front = u; back = []; split = sym (append-nil u); first = comma_into (NextText n l true) a.1 (kind t) (ALabel z) u b (sym (ap (λ (v : RangesTailed). v.1) e) ∙ f) k.0 (next_from n l (ALabel z) u k.1); second = last m state }
+      where
+        last : (m : ℕ) → y ≡ more_ranges a (ALabel z) → CommaChain (NextText n l true) m (more_ranges a (ALabel z)) y []
+        last zero e = e
+        last (suc m) e = e
+ranges_from n l zero a y x (t ∷ w) u i h = absurd h
+ranges_from n l (suc m) a y x (t ∷ w) u i h =
+    let g = comma_out (NextText n l false) a.1 (kind t) h.mid h.front h.first in
+    record {
+      mid = h.mid;
+      front = h.front;
+      back = h.back ++ u;
+      split = ap (λ (z : List Placed). z ++ u) h.split ∙ append_assoc h.front h.back u;
+      first = comma_into (NextText n l true) a.1 (kind t) h.mid h.front g.0 g.1 g.2 (next_from n l h.mid h.front (plain h.mid h.front g.3));
+      second = ranges_from n l m (more_ranges a h.mid) y x h.back u i h.second;
+    }
+  where
+    plain : (c : Next) (v : List Placed) → NextText n l false c v → NextIs n l c v
+    plain c v k = subst (λ d. NextIs n l d v) (sym k.is) k.spells
+
+pub moded_ranges : (n : ℕ) (l : Inner) → Moded (Ranges n l true) (Ranges n l false)
+moded_ranges n l = record { to = to; from = from }
+  where
+    to : (rs : List RangeParts) (y : Tail) (w : List Placed) → Ranges n l true (rs, y) w → Extended (λ x. Ranges n l false (rs, x)) y w
+    to rs y w c =
+        let d = ranges_to n l c.second.0 c.mid (rs, y) c.back c.second.1 in
+        record {
+          tail = d.tail;
+          text = c.front ++ d.text;
+          more = d.more;
+          split = c.split ∙ ap (λ (z : List Placed). c.front ++ z) d.split ∙ sym (append_assoc c.front d.text d.more);
+          ext = d.ext;
+          spells = record { mid = c.mid; front = c.front; back = d.text; split = refl; first = c.first; second = (c.second.0, d.spells) };
+        }
+
+    from : (rs : List RangeParts) (y : Tail) (w : List Placed) → Extended (λ x. Ranges n l false (rs, x)) y w → Ranges n l true (rs, y) w
+    from rs y w e =
+        let c = e.spells in
+        record {
+          mid = c.mid;
+          front = c.front;
+          back = c.back ++ e.more;
+          split = e.split ∙ ap (λ (z : List Placed). z ++ e.more) c.split ∙ append_assoc c.front c.back e.more;
+          first = c.first;
+          second = (suc c.second.0, ranges_from n l c.second.0 c.mid (rs, y) e.tail c.back e.more e.ext c.second.1);
+        }

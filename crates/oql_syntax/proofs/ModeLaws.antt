@@ -256,3 +256,187 @@ moded_ranges n l = record { to = to; from = from }
           first = c.first;
           second = (suc c.second.0, ranges_from n l c.second.0 c.mid (rs, y) e.tail c.back e.more e.ext c.second.1);
         }
+
+-- ---- selects: ranges, and at most one condition
+
+abbrev pub IsRanged : Tail → Type 0
+IsRanged x = (b : Bool) × (x ≡ Ranged b)
+
+abbrev pub with_condition : ℕ → QueryTree → List RangeParts → ℕ → QueryTree → QueryTree
+with_condition at h rs p e = QSelect at h (of_ranges rs) (Where p e)
+
+abbrev pub unconditioned : ℕ → QueryTree → RangesTailed → Tailed
+unconditioned at h r = (QSelect at h (of_ranges r.0) NoWhere, r.1)
+
+abbrev pub Condition : Lang Placed Tailed → ℕ → QueryTree → RangesTailed → Lang Placed Tailed
+Condition F at h r v [] = ⊥
+Condition F at h r v (t ∷ w) = IsRanged r.1 × (kind t ≡ KWord q.Where) × Made (opening (with_condition at h r.0 t.at)) F v w
+
+abbrev pub BehindRanges : Lang Placed Tailed → ℕ → QueryTree → RangesTailed → Lang Placed Tailed
+BehindRanges F at h r v w = Nothing (unconditioned at h r) v w ⊎ Condition F at h r v w
+
+abbrev WhereChain : Lang Placed Tailed → ℕ → SelectParts → SelectParts → List Placed → Type 0
+WhereChain F n a y w = ChainText (λ (x : SelectParts) t. WhereLinks F x.1 x.2 t.at (kind t)) with_where n a y w
+
+where_out : (F : Lang Placed Tailed) (c : QueryWhere) (x : Tail) (p : ℕ) (k : Kind) (l : ℕ × QueryTree × Tail) (w : List Placed) → WhereLinks F c x p k l w → (c ≡ NoWhere) × IsRanged x × (k ≡ KWord q.Where) × (l.0 ≡ p) × F (l.1, l.2) w
+where_out F NoWhere (Ranged b) p (KWord q.Where) l w h = let i = placed_is F p l w h in (refl, (b, refl), refl, i.0, i.1)
+where_out F _ _ p _ l w h = absurd h
+
+behind_where : (F : Lang Placed Tailed) (n : ℕ) (rs : List RangeParts) (p : ℕ) (e : QueryTree) (x : Tail) (y : SelectParts) (w : List Placed) → WhereChain F n (rs, Where p e, x) y w → (y ≡ (let v : SelectParts = (rs, Where p e, x) in v)) × (w ≡ [])
+behind_where F zero rs p e x y [] h = (h, refl)
+behind_where F zero rs p e x y (t ∷ w) h = absurd h
+behind_where F (suc n) rs p e x y [] h = (h, refl)
+behind_where F (suc n) rs p e x y (t ∷ w) h = absurd h.first
+
+rest_to : (F : Lang Placed Tailed) (n : ℕ) (at : ℕ) (h : QueryTree) (r : RangesTailed) (y : SelectParts) (v : Tailed) (w : List Placed) → v ≡ selected at h y → WhereChain F (suc n) (no_where r) y w → BehindRanges F at h r v w
+rest_to F n at h r y v [] e k = inl (e ∙ ap (selected at h) k, tt)
+rest_to F n at h r y v (t ∷ w) e k =
+    let g = where_out F NoWhere r.1 t.at (kind t) k.mid k.front k.first in
+    let d = behind_where F n r.0 k.mid.0 k.mid.1 (opened k.mid.2) y k.back k.second in
+    let whole : w ≡ k.front = k.split ∙ ap (λ (z : List Placed). k.front ++ z) d.1 ∙ append-nil k.front in
+    inr (
+      g.1,
+      g.2,
+      record {
+        part = (k.mid.1, k.mid.2);
+        is = e ∙ ap (selected at h) d.0 ∙ ap (λ (p : ℕ). opening (with_condition at h r.0 p) (k.mid.1, k.mid.2)) g.3;
+        spells = subst (F (k.mid.1, k.mid.2)) (sym whole) g.4;
+      },
+    )
+
+where_link : (F : Lang Placed Tailed) (x : Tail) (p : ℕ) (k : Kind) (v : Tailed) (w : List Placed) → IsRanged x → k ≡ KWord q.Where → F v w → WhereLinks F NoWhere x p k (p, v.0, v.1) w
+where_link F x p k v w (b, e) i h = subst (λ y. WhereLinks F NoWhere y p k (p, v.0, v.1) w) (sym e) (subst (λ j. WhereLinks F NoWhere (Ranged b) p j (p, v.0, v.1) w) (sym i) (record { part = v; is = refl; spells = h }))
+
+where_stop : (F : Lang Placed Tailed) (n : ℕ) (a : SelectParts) → WhereChain F n a a []
+where_stop F zero a = refl
+where_stop F (suc n) a = refl
+
+abbrev pub SelectForm : Lang Placed RangesTailed → Lang Placed Tailed → ℕ → QueryTree → Lang Placed Tailed
+SelectForm R F at h = Chained R (BehindRanges F at h)
+
+pub select_to : (n : ℕ) (b : Bool) (L : Texts) (at : ℕ) (h : QueryTree) (v : Tailed) (w : List Placed) → SelectRest n b L at h v w → SelectForm (L.ranges b) (L.full b) at h v w
+select_to n b L at h v w m =
+    let c = m.spells in
+    record { mid = c.first.part; front = c.front; back = c.back; split = c.split; first = c.first.spells; second = rest_to (L.full b) n at h c.first.part m.part v c.back m.is (subst (λ (z : SelectParts). WhereChain (L.full b) (suc n) z m.part c.back) c.first.is c.second) }
+
+pub select_from : (n : ℕ) (b : Bool) (L : Texts) (at : ℕ) (h : QueryTree) (v : Tailed) (w : List Placed) → SelectForm (L.ranges b) (L.full b) at h v w → SelectRest n b L at h v w
+select_from n b L at h v w c = by c.back c.split c.second
+  where
+    by : (back : List Placed) → w ≡ c.front ++ back → BehindRanges (L.full b) at h c.mid v back → SelectRest n b L at h v w
+    by back e (inl g) =
+        record {
+          part = no_where c.mid;
+          is = g.0;
+          spells = record { mid = no_where c.mid; front = c.front; back = back; split = e; first = record { part = c.mid; is = refl; spells = c.first }; second = subst (WhereChain (L.full b) (suc n) (no_where c.mid) (no_where c.mid)) (sym (nil_of back g.1)) refl };
+        }
+    by [] e (inr g) = absurd g
+    by (t ∷ u) e (inr g) =
+        let f = g.2.part in
+        record {
+          part = with_where (no_where c.mid) (t.at, f.0, f.1);
+          is = g.2.is;
+          spells = record {
+            mid = no_where c.mid;
+            front = c.front;
+            back = t ∷ u;
+            split = e;
+            first = record { part = c.mid; is = refl; spells = c.first };
+            second = record { mid = (t.at, f.0, f.1); front = u; back = []; split = sym (append-nil u); first = where_link (L.full b) c.mid.1 t.at (kind t) f u g.0 g.1 g.2.spells; second = where_stop (L.full b) n (with_where (no_where c.mid) (t.at, f.0, f.1)) };
+          };
+        }
+
+-- ranges are not extended before a condition
+ranged_same : (x y : Tail) (u : List Placed) → IsRanged y → Extends x y u → (x ≡ y) × (u ≡ [])
+ranged_same x y u r (inl h) = (h.0, nil_of u h.1)
+ranged_same x y u (c, e) (inr (b, l, i, j, h)) = absurd (let k = sym e ∙ j in cc)
+
+module _ (R P : Lang Placed RangesTailed) (F G : Lang Placed Tailed) (ranges : Moded R P) (full : Moded F G) (at : ℕ) (h : QueryTree) where
+  moded_form_to : (e : QueryTree) (y : Tail) (w : List Placed) → SelectForm R F at h (e, y) w → Extended (λ x. SelectForm P G at h (e, x)) y w
+  moded_form_to e y w c = by c.back c.split c.second
+    where
+      by : (back : List Placed) → w ≡ c.front ++ back → BehindRanges F at h c.mid (e, y) back → Extended (λ x. SelectForm P G at h (e, x)) y w
+      by back i (inl g) =
+          let one = ranges.to c.mid.0 c.mid.1 c.front c.first in
+          let whole : w ≡ c.front = i ∙ ap (λ (z : List Placed). c.front ++ z) (nil_of back g.1) ∙ append-nil c.front in
+          record {
+            tail = one.tail;
+            text = one.text;
+            more = one.more;
+            split = whole ∙ one.split;
+            ext = subst (λ z. Extends one.tail z one.more) (sym (ap (λ (z : Tailed). z.1) g.0)) one.ext;
+            spells = record { mid = (c.mid.0, one.tail); front = one.text; back = []; split = sym (append-nil one.text); first = one.spells; second = inl (ap (λ (z : Tailed). (z.0, one.tail)) g.0, tt) };
+          }
+      by [] i (inr g) = absurd g
+      by (t ∷ u) i (inr g) =
+          let one = ranges.to c.mid.0 c.mid.1 c.front c.first in
+          let same = ranged_same one.tail c.mid.1 one.more g.0 one.ext in
+          let two = (moded_opened (with_condition at h c.mid.0 t.at) F G full).to e y u g.2 in
+          record {
+            tail = two.tail;
+            text = one.text ++ t ∷ two.text;
+            more = two.more;
+            split =
+              i
+              ∙ ap (λ (z : List Placed). z ++ t ∷ u) (one.split ∙ ap (λ (z : List Placed). one.text ++ z) same.1 ∙ append-nil one.text)
+              ∙ ap (λ (z : List Placed). one.text ++ t ∷ z) two.split
+              ∙ sym (append_assoc one.text (t ∷ two.text) two.more);
+            ext = two.ext;
+            spells = record { mid = (c.mid.0, one.tail); front = one.text; back = t ∷ two.text; split = refl; first = one.spells; second = inr ((g.0.0, same.0 ∙ g.0.1), g.1, two.spells) };
+          }
+
+  moded_form_from : (e : QueryTree) (y : Tail) (w : List Placed) → Extended (λ x. SelectForm P G at h (e, x)) y w → SelectForm R F at h (e, y) w
+  moded_form_from e y w g = by g.spells g.spells.back g.spells.split g.spells.second
+    where
+      by : (c : SelectForm P G at h (e, g.tail) g.text) (back : List Placed) → g.text ≡ c.front ++ back → BehindRanges G at h c.mid (e, g.tail) back → SelectForm R F at h (e, y) w
+      by c back i (inl k) =
+          let whole : g.text ≡ c.front = i ∙ ap (λ (z : List Placed). c.front ++ z) (nil_of back k.1) ∙ append-nil c.front in
+          record {
+            mid = (c.mid.0, y);
+            front = w;
+            back = [];
+            split = sym (append-nil w);
+            first = ranges.from c.mid.0 y w (record { tail = c.mid.1; text = c.front; more = g.more; split = g.split ∙ ap (λ (z : List Placed). z ++ g.more) whole; ext = subst (λ z. Extends z y g.more) (ap (λ (z : Tailed). z.1) k.0) g.ext; spells = c.first });
+            second = inl (ap (λ (z : Tailed). (z.0, y)) k.0, tt);
+          }
+      by c [] i (inr k) = absurd k
+      by c (t ∷ u) i (inr k) =
+          let last : Extended (λ x. P (c.mid.0, x)) c.mid.1 c.front = extended (λ x. P (c.mid.0, x)) c.mid.1 c.front c.first in
+          record {
+            mid = c.mid;
+            front = c.front;
+            back = t ∷ (u ++ g.more);
+            split = g.split ∙ ap (λ (z : List Placed). z ++ g.more) i ∙ append_assoc c.front (t ∷ u) g.more;
+            first = ranges.from c.mid.0 c.mid.1 c.front last;
+            second = inr (k.0, k.1, (moded_opened (with_condition at h c.mid.0 t.at) F G full).from e y (u ++ g.more) (record { tail = g.tail; text = u; more = g.more; split = refl; ext = g.ext; spells = k.2 }));
+          }
+
+  moded_form : Moded (SelectForm R F at h) (SelectForm P G at h)
+  moded_form = record { to = moded_form_to; from = moded_form_from }
+
+moded_rest : (n : ℕ) (L : Texts) (at : ℕ) (h : QueryTree) → Modes L → Moded (SelectRest n true L at h) (SelectRest n false L at h)
+moded_rest n L at h m = record { to = to; from = from }
+  where
+    to : (e : QueryTree) (y : Tail) (w : List Placed) → SelectRest n true L at h (e, y) w → Extended (λ x. SelectRest n false L at h (e, x)) y w
+    to e y w k =
+        let d = moded_form_to (L.ranges true) (L.ranges false) (L.full true) (L.full false) m.ranges m.full at h e y w (select_to n true L at h (e, y) w k) in
+        record { tail = d.tail; text = d.text; more = d.more; split = d.split; ext = d.ext; spells = select_from n false L at h (e, d.tail) d.text d.spells }
+
+    from : (e : QueryTree) (y : Tail) (w : List Placed) → Extended (λ x. SelectRest n false L at h (e, x)) y w → SelectRest n true L at h (e, y) w
+    from e y w d =
+        select_from n true L at h (e, y) w
+        (moded_form_from (L.ranges true) (L.ranges false) (L.full true) (L.full false) m.ranges m.full at h e y w (record { tail = d.tail; text = d.text; more = d.more; split = d.split; ext = d.ext; spells = select_to n false L at h (e, d.tail) d.text d.spells }))
+
+-- ---- all levels
+
+moded_full_rest : (n : ℕ) (l : Inner) → ModesIn l → (k : Kind) (at : ℕ) → Moded (FullRest n true l k at) (FullRest n false l k at)
+moded_full_rest n l m (KWord q.Select) at = moded_deeper m _ _ (λ L m. moded_ahead _ _ _ (moded_chained (L.full false) _ _ (λ h. moded_ahead _ _ _ (moded_rest n L at h.0 m))))
+moded_full_rest n l m k at = moded_or_from n l m (NotRest n true l k at) (NotRest n false l k at) (moded_not_rest n l m k at)
+
+pub moded_full : (n : ℕ) (l : Inner) → ModesIn l → Moded (Full n true l) (Full n false l)
+moded_full n l m = moded_led (λ t. FullRest n true l (kind t) t.at) (λ t. FullRest n false l (kind t) t.at) (λ t. moded_full_rest n l m (kind t) t.at)
+
+pub modes : (n d : ℕ) → ModesIn (inner n d)
+modes n zero = in_none
+modes n (suc d) =
+    let m = modes n d in
+    in_level (texts n (inner n d)) (record { opennot = moded_not n (inner n d) m; full = moded_full n (inner n d) m; ranges = moded_ranges n (inner n d) })

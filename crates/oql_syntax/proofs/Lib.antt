@@ -9,3 +9,4 @@ pub mod Modes
 pub mod FirstParts
 pub mod NextLaws
 pub mod ModeLaws
+pub mod GrammarLaws

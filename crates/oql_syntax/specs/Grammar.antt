@@ -87,12 +87,16 @@ nowhere = record { sets = λ e. none; negation = λ b e. none; full = λ e. none
 
 -- ---- first operands
 
+-- a label, a colon, and its expression
+abbrev pub FieldText : Deeper → List ℕ × ℕ × QueryTree → Text
+FieldText B f = LabelText (f.0, f.1) · KSign s.Colon ▸ B.full f.2
+
 -- prim, but for parentheses
 abbrev pub ItselfText : Deeper → QueryTree → Text
 ItselfText B (QName p x) = NameAtText x p
 ItselfText B (QLiteral p v) = LiteralText (v, p)
 ItselfText B (QSetOf p vs) = at q.Set p (KSign s.Open ▸ PartedByCommas LiteralText (KSign s.Close ▸ ends) vs)
-ItselfText B (QStruct p fs) = at q.Struct p (KSign s.Open ▸ PartedByCommas (λ f. LabelText (f.0, f.1) · KSign s.Colon ▸ B.full f.2) (KSign s.Close ▸ ends) (fields fs))
+ItselfText B (QStruct p fs) = at q.Struct p (KSign s.Open ▸ PartedByCommas (FieldText B) (KSign s.Close ▸ ends) (fields fs))
 ItselfText B (QFlatten p e) = at q.Flatten p (KSign s.Open ▸ (B.full e · KSign s.Close ▸ ends))
 ItselfText B (QSomeMember p e) = at q.Exists p (KSign s.Open ▸ (B.full e · KSign s.Close ▸ ends))
 ItselfText B _ = none

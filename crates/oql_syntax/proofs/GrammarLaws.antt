@@ -19,7 +19,7 @@ use Rattle.oql_syntax.proofs.QuerySymbols.{Ahead, no_text, LiteralRest, Literal}
 use Rattle.oql_syntax.proofs.LevelLaws.{Texts, Inner, Nowhere, Level_of, Closed, CommaLiteral, CloseText, Literals, StructIn, FlattenIn, SomeIn, SetIn, PathLinks, PathBy, MeetLinks, MeetFrom, UnionLinks, PrimRest, Prim, SetsFrom, Sets, CmpFrom}
 use Rattle.oql_syntax.proofs.LevelLaws as levels
 use Rattle.oql_syntax.proofs.LinkedTexts.{linked_to, linked_from, is_open, Fits, fits}
-use Rattle.oql_syntax.proofs.ModeLaws.{Comparing, cmp_cases, cmp_link, IsRanged}
+use Rattle.oql_syntax.proofs.ModeLaws.{Comparing, CmpChain, cmp_cases, cmp_link, IsRanged}
 
 -- ---- lists
 
@@ -217,3 +217,110 @@ module _ (l : Inner) (B : Deeper) (agree : Agree l B) where
   prim_from e [] (inr h) = absurd h
   prim_from e (t ∷ w) (inl h) = itself_from e t w h
   prim_from e (t ∷ w) (inr h) = subst (λ k. PrimRest l k t.at e w) (sym h.0) (deeper_from l B agree (λ L. Closed (L.full false)) e w (no_closed B e w h.1) (λ L same. closed_from B L same e w h.1))
+
+-- ---- paths, intersections, unions
+
+label_links_to : (k : Kind) (x : Named) (w : List Placed) → PathLinks k x w → ((k ≡ KSign s.Dot) ⊎ (k ≡ KSign s.Arrow)) × NameText x w
+label_links_to (KSign s.Dot) x w h = (inl refl, h)
+label_links_to (KSign s.Arrow) x w h = (inr refl, h)
+label_links_to _ x w h = absurd h
+
+abbrev DotOrArrow : Placed → Type 0
+DotOrArrow t = (kind t ≡ KSign s.Dot) ⊎ (kind t ≡ KSign s.Arrow)
+
+label_links_from : (t : Placed) (x : Named) (w : List Placed) → DotOrArrow t → NameText x w → PathLinks (kind t) x w
+label_links_from t x w (inl e) h = subst (λ k. PathLinks k x w) (sym e) h
+label_links_from t x w (inr e) h = subst (λ k. PathLinks k x w) (sym e) h
+
+abbrev stored : Named → List ℕ × ℕ
+stored x = (x.name, x.at)
+
+abbrev same_link : {A : Type 0} → A → A
+same_link x = x
+
+module _ (n : ℕ) (l : Inner) (B : Deeper) (agree : Agree l B) where
+  path_to : (e : QueryTree) (w : List Placed) → PathBy n (Prim l) e w → PathText n B e w
+  path_to e w h = linked_to stored (λ t. PathLinks (kind t)) (λ x. leads DotOrArrow (LabelText x)) path_of (Prim l) (PrimText B) (λ t x w g. label_links_to (kind t) x w g) (prim_to l B agree) n e w h
+
+  path_from : (e : QueryTree) (w : List Placed) → PathText n B e w → PathBy n (Prim l) e w
+  path_from e w h =
+      linked_from stored (λ t. PathLinks (kind t)) (λ x. leads DotOrArrow (LabelText x)) path_of (Prim l) (PrimText B) (λ x t w g. (named x.0 x.1, refl, label_links_from t (named x.0 x.1) w g.0 g.1)) (λ x g. g) (prim_from l B agree) n e w h
+
+  meet_link_to : (t : Placed) (k : Kind) (x : ℕ × QueryTree) (w : List Placed) → kind t ≡ k → MeetLinks (PathBy n (Prim l)) t.at k x w → at q.Intersect x.0 (PathText n B x.1) (t ∷ w)
+  meet_link_to t (KWord q.Intersect) x w e h =
+      ((e, ap (λ (z : ℕ × QueryTree). z.0) (sym h.is)), subst (λ (z : ℕ × QueryTree). PathText n B z.1 w) (sym h.is) (path_to h.part w h.spells))
+  meet_link_to t _ x w e h = absurd h
+
+  meet_link_from : (x : ℕ × QueryTree) (t : Placed) (w : List Placed) → at q.Intersect x.0 (PathText n B x.1) (t ∷ w) → MeetLinks (PathBy n (Prim l)) t.at (kind t) x w
+  meet_link_from x t w h =
+      subst (λ k. MeetLinks (PathBy n (Prim l)) t.at k x w) (sym h.0.0) (record { part = x.1; is = ap (λ (p : ℕ). (p, x.1)) (sym h.0.1); spells = path_from x.1 w h.1 })
+
+  meet_to : (e : QueryTree) (w : List Placed) → MeetFrom n l (Prim l) e w → MeetText n B e w
+  meet_to e w h =
+      linked_to same_link (λ t. MeetLinks (PathBy n (Prim l)) t.at (kind t)) (λ x. at q.Intersect x.0 (PathText n B x.1)) intersect_of (PathBy n (Prim l)) (PathText n B) (λ t x w g. meet_link_to t (kind t) x w refl g) path_to n e w h
+
+  meet_from : (e : QueryTree) (w : List Placed) → MeetText n B e w → MeetFrom n l (Prim l) e w
+  meet_from e w h =
+      linked_from same_link (λ t. MeetLinks (PathBy n (Prim l)) t.at (kind t)) (λ x. at q.Intersect x.0 (PathText n B x.1)) intersect_of (PathBy n (Prim l)) (PathText n B) (λ x t w g. (x, refl, meet_link_from x t w g)) (λ x g. g) path_from n e w h
+
+  abbrev UnionLink : ℕ × Bool × QueryTree → Text
+  UnionLink x = at (union_word x.1) x.0 (MeetText n B x.2)
+
+  union_is : (t : Placed) (b : Bool) (x : ℕ × Bool × QueryTree) (w : List Placed) → kind t ≡ KWord (union_word b) → Made (set_operand t.at b) (MeetFrom n l (Prim l)) x w → UnionLink x (t ∷ w)
+  union_is t b x w e h = subst (λ (z : ℕ × Bool × QueryTree). UnionLink z (t ∷ w)) (sym h.is) ((e, refl), meet_to h.part w h.spells)
+
+  union_link_to : (t : Placed) (k : Kind) (x : ℕ × Bool × QueryTree) (w : List Placed) → kind t ≡ k → UnionLinks (MeetFrom n l (Prim l)) t.at k x w → UnionLink x (t ∷ w)
+  union_link_to t (KWord q.Union) x w e h = union_is t false x w e h
+  union_link_to t (KWord q.Except) x w e h = union_is t true x w e h
+  union_link_to t _ x w e h = absurd h
+
+  union_made : (b : Bool) (p : ℕ) (x : ℕ × Bool × QueryTree) (w : List Placed) → x.1 ≡ b → p ≡ x.0 → MeetFrom n l (Prim l) x.2 w → UnionLinks (MeetFrom n l (Prim l)) p (KWord (union_word b)) x w
+  union_made true p x w e i h = record { part = x.2; is = ap (λ (c : Bool). (x.0, c, x.2)) e ∙ ap (λ (z : ℕ). (z, true, x.2)) (sym i); spells = h }
+  union_made false p x w e i h = record { part = x.2; is = ap (λ (c : Bool). (x.0, c, x.2)) e ∙ ap (λ (z : ℕ). (z, false, x.2)) (sym i); spells = h }
+
+  union_link_from : (x : ℕ × Bool × QueryTree) (t : Placed) (w : List Placed) → UnionLink x (t ∷ w) → UnionLinks (MeetFrom n l (Prim l)) t.at (kind t) x w
+  union_link_from x t w h = subst (λ k. UnionLinks (MeetFrom n l (Prim l)) t.at k x w) (sym h.0.0) (union_made x.1 t.at x w refl h.0.1 (meet_from x.2 w h.1))
+
+  pub sets_to : (e : QueryTree) (w : List Placed) → Sets n l e w → SetsText n B e w
+  sets_to e w h =
+      linked_to same_link (λ t. UnionLinks (MeetFrom n l (Prim l)) t.at (kind t)) UnionLink union_of (MeetFrom n l (Prim l)) (MeetText n B) (λ t x w g. union_link_to t (kind t) x w refl g) meet_to n e w h
+
+  pub sets_from : (e : QueryTree) (w : List Placed) → SetsText n B e w → Sets n l e w
+  sets_from e w h =
+      linked_from same_link (λ t. UnionLinks (MeetFrom n l (Prim l)) t.at (kind t)) UnionLink union_of (MeetFrom n l (Prim l)) (MeetText n B) (λ x t w g. (x, refl, union_link_from x t w g)) (λ x g. g) meet_from n e w h
+
+  -- ---- comparisons
+
+  comparing_to : (a e : QueryTree) (x : Tail) (w u v : List Placed) → w ≡ u ++ v → Sets n l a u → Comparing (Sets n l) a (e, x) v → ComparedText n B e w
+  comparing_to a e x w u [] i f h = absurd h
+  comparing_to a e x w u (t ∷ v) i f (z, b, j, k, h) =
+      subst (λ y. ComparedText n B y w) (sym (ap (λ (z : Tailed). z.0) h)) (record { front = u; back = t ∷ v; split = i; first = sets_to a u f; second = ((j, refl), sets_to b v k) })
+
+  pub cmp_to : (e : QueryTree) (x : Tail) (w : List Placed) → CmpFrom n l (Prim l) (e, x) w → CmpText n B e w
+  cmp_to e x w c = by (cmp_cases (Sets n l) n c.first.part (e, x) c.back (subst (λ (z : Tailed). CmpChain (Sets n l) (suc n) z (e, x) c.back) c.first.is c.second))
+    where
+      by : (((let v : Tailed = (e, x) in v) ≡ (let z : Tailed = (c.first.part, Plain) in z)) × ends c.back) ⊎ Comparing (Sets n l) c.first.part (e, x) c.back → CmpText n B e w
+      by (inl h) =
+          let whole : w ≡ c.front = c.split ∙ ap (λ (z : List Placed). c.front ++ z) (nil_of c.back h.1) ∙ append-nil c.front in
+          inl (subst (SetsText n B e) (sym whole) (subst (λ y. SetsText n B y c.front) (sym (ap (λ (z : Tailed). z.0) h.0)) (sets_to c.first.part c.front c.first.spells)))
+      by (inr h) = inr (comparing_to c.first.part e x w c.front c.back c.split c.first.spells h)
+
+  comparing_from : (e : QueryTree) (w : List Placed) → ComparedText n B e w → CmpFrom n l (Prim l) (e, Compared) w
+  comparing_from (QCompare p z a b) w h = by h.back h.split h.second
+    where
+      by : (v : List Placed) → w ≡ h.front ++ v → ComparisonAt z p (SetsText n B b) v → CmpFrom n l (Prim l) (QCompare p z a b, Compared) w
+      by [] i g = absurd g
+      by (t ∷ v) i g =
+          record {
+            mid = (a, Plain);
+            front = h.front;
+            back = t ∷ v;
+            split = i;
+            first = record { part = a; is = refl; spells = sets_from a h.front h.first };
+            second = cmp_link (Sets n l) n a (QCompare p z a b, Compared) (t ∷ v) (z, b, g.0.0, sets_from b v g.1, ap (λ (p : ℕ). compared (a, Plain) (p, z, b)) (sym g.0.1));
+          }
+  comparing_from _ w h = absurd h
+
+  pub cmp_from : (e : QueryTree) (w : List Placed) → CmpText n B e w → (x : Tail) × (is_open x ≡ false) × CmpFrom n l (Prim l) (e, x) w
+  cmp_from e w (inl h) = (Plain, refl, record { mid = (e, Plain); front = w; back = []; split = sym (append-nil w); first = record { part = e; is = refl; spells = sets_from e w h }; second = refl })
+  cmp_from e w (inr h) = (Compared, refl, comparing_from e w h)

@@ -59,7 +59,7 @@ abbrev pub Comparing : Lang Placed QueryTree → QueryTree → Lang Placed Taile
 Comparing S a v [] = ⊥
 Comparing S a v (t ∷ u) = (z : comparison.Sign) × (b : QueryTree) × (comparison_of (kind t) ≡ Some z) × S b u × (v ≡ compared (a, Plain) (t.at, z, b))
 
-abbrev CmpChain : Lang Placed QueryTree → ℕ → Tailed → Lang Placed Tailed
+abbrev pub CmpChain : Lang Placed QueryTree → ℕ → Tailed → Lang Placed Tailed
 CmpChain S n a = ChainText (λ (v : Tailed) t. ComparisonLinks S v.1 t.at (kind t)) compared n a
 
 behind_compared : (S : Lang Placed QueryTree) (n : ℕ) (e : QueryTree) (v : Tailed) (w : List Placed) → CmpChain S n (e, Compared) v w → (v ≡ (let z : Tailed = (e, Compared) in z)) × ends w

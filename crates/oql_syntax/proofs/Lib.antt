@@ -10,3 +10,4 @@ pub mod FirstParts
 pub mod NextLaws
 pub mod ModeLaws
 pub mod GrammarLaws
+pub mod GrammarNots

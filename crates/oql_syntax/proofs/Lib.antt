@@ -11,3 +11,4 @@ pub mod NextLaws
 pub mod ModeLaws
 pub mod GrammarLaws
 pub mod GrammarNots
+pub mod Unlabelled

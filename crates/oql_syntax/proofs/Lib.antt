@@ -12,3 +12,4 @@ pub mod ModeLaws
 pub mod GrammarLaws
 pub mod GrammarNots
 pub mod Unlabelled
+pub mod GrammarSelects

@@ -141,7 +141,7 @@ moded_or_from n l m P R h =
 
 -- ---- ranges
 
-abbrev CommaChain : Lang Placed Next → ℕ → RangesTailed → Lang Placed RangesTailed
+abbrev pub CommaChain : Lang Placed Next → ℕ → RangesTailed → Lang Placed RangesTailed
 CommaChain L n a = ChainText (λ (x : RangesTailed) t. CommaLinks L x.1 (kind t)) more_ranges n a
 
 -- a comma stands behind ranges

@@ -78,10 +78,10 @@ name_some x None e i = absurd cc
 
 -- ---- ranges by their first operands
 
-no_as : (n : ℕ) (l : Inner) (r : RangeRead) (w : List Placed) → AsFrom n l no_text r w → ⊥
+pub no_as : (n : ℕ) (l : Inner) (r : RangeRead) (w : List Placed) → AsFrom n l no_text r w → ⊥
 no_as n l r w h = ((as_first n l).part no_text r w h).2
 
-as_range : (n : ℕ) (l : Inner) (k : Kind) (at : ℕ) (r : RangeRead) (w : List Placed) → AsFrom n l (PrimRest l k at) r w → RangeRest n l k at r w
+pub as_range : (n : ℕ) (l : Inner) (k : Kind) (at : ℕ) (r : RangeRead) (w : List Placed) → AsFrom n l (PrimRest l k at) r w → RangeRest n l k at r w
 as_range n l (KName x) at r w h = inr h
 as_range n l k at r w h = h
 

@@ -13,3 +13,4 @@ pub mod GrammarLaws
 pub mod GrammarNots
 pub mod Unlabelled
 pub mod GrammarSelects
+pub mod GrammarWhole

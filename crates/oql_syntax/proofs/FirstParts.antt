@@ -1,13 +1,11 @@
 -- Texts that begin with a text of a language: a token before the one is a token before the other.
 use Rattle.std.proofs.Common.{◌≡◌, ℕ, Bool, List, [], ◌∷◌, ◌++◌, refl, sym, ap, subst}
 use Rattle.kola_base.specs.Placed.{Placed}
-use Rattle.kola_parse.specs.Kinds.{Lang, leads}
+use Rattle.kola_parse.specs.Kinds.{Lang}
 use Rattle.kola_parse.specs.Texts.{Chained, Made, Led}
 use Rattle.oql_syntax.specs.Alphabet.{Kind, kind}
-use Rattle.oql_syntax.specs.QueryTrees.{QueryTree}
-use Rattle.oql_syntax.specs.QueryReaders.{Tailed, RangeRead}
-use Rattle.oql_syntax.proofs.QuerySymbols.{Ahead, no_text}
-use Rattle.oql_syntax.proofs.LevelLaws.{Inner, SetsFrom, CmpFrom, AndFrom, OrFrom, OpenNot, OpenOrFrom}
+use Rattle.oql_syntax.proofs.QuerySymbols.{Ahead}
+use Rattle.oql_syntax.proofs.LevelLaws.{Inner, SetsFrom, CmpFrom, OpenOrFrom}
 use Rattle.oql_syntax.proofs.RangeLaws.{AsFrom}
 
 pub record FirstPart {A B : Type 0} (X : Lang Placed A → Lang Placed B) : Type 1 where

@@ -1,24 +1,23 @@
 -- What the readers read is what the grammar says: first operands, sets, and comparisons.
-use Rattle.std.proofs.Common.{◌≡◌, ◌⊎◌, inl, inr, ℕ, zero, suc, ◌≤◌, length, Bool, true, false, List, [], ◌∷◌, ◌++◌, Option, Some, None, append_assoc, refl, sym, ap, subst, ◌∙◌}
+use Rattle.std.proofs.Common.{◌≡◌, ◌⊎◌, inl, inr, ℕ, suc, Bool, true, false, List, [], ◌∷◌, ◌++◌, Option, Some, None, refl, sym, ap, subst, ◌∙◌}
 use Rattle.std.proofs.lemmas.List.{append-nil}
 use Rattle.kola_base.specs.Named.{Named, NameText}
 use Rattle.kola_base.specs.Placed.{Placed}
 use Rattle.kola_base.specs.declared.sign.Sign.TheVariants as s
 use Rattle.kola_parse.specs.Kinds.{Lang, leads}
 use Rattle.kola_parse.specs.Listed.{Listed}
-use Rattle.kola_parse.specs.Texts.{◌·◌, ends, none, Nothing, Chained, Made, Led}
+use Rattle.kola_parse.specs.Texts.{◌·◌, ends, Nothing, Made}
 use Rattle.kola_parse.proofs.ReaderLaws.{nil_of}
-use Rattle.oql_syntax.specs.Alphabet.{Kind, KSign, KWord, KName, KNumber, KString, KOther, kind}
-use Rattle.oql_syntax.specs.Grammar.{Text, ◌▸◌, at, LabelText, LiteralText, ComparisonAt, PartedByCommas, LinkedText, Deeper, nowhere, FieldText, ItselfText, PrimText, PathText, MeetText, union_word, SetsText, ComparedText, CmpText, RangeText}
-use Rattle.oql_syntax.specs.QueryTrees.{LitTree, LitInt, LitStr, LitBool, QueryTree, QName, QLiteral, QSetOf, QPath, QStruct, QFlatten, QSomeMember, QCompare, QueryFields, NoFields, QField, QueryRanges, NoRanges, QRange, fields, of_fields, ranges, of_ranges}
-use Rattle.oql_syntax.specs.QueryReaders.{named, literal_of, Tailed, RangeParts, FieldParts, first_and, path_of, intersect_of, union_of, at_place, set_operand, struct_tree, compared, plain}
+use Rattle.oql_syntax.specs.Alphabet.{Kind, KSign, KWord, KName, KNumber, KString, kind}
+use Rattle.oql_syntax.specs.Grammar.{Text, ◌▸◌, at, LabelText, LiteralText, ComparisonAt, PartedByCommas, Deeper, FieldText, ItselfText, PrimText, PathText, MeetText, union_word, SetsText, ComparedText, CmpText, RangeText}
+use Rattle.oql_syntax.specs.QueryTrees.{LitTree, LitInt, LitStr, LitBool, QueryTree, QName, QLiteral, QSetOf, QStruct, QFlatten, QSomeMember, QCompare, QueryFields, NoFields, QField, QueryRanges, NoRanges, QRange, fields, of_fields, ranges, of_ranges}
+use Rattle.oql_syntax.specs.QueryReaders.{named, literal_of, Tailed, RangeParts, FieldParts, path_of, intersect_of, union_of, set_operand, compared}
 use Rattle.oql_syntax.specs.Tails.{Tail, Plain, Compared}
-use Rattle.oql_syntax.specs.declared.query.Sign as comparison
 use Rattle.oql_syntax.specs.declared.word.QueryWord.TheVariants as q
-use Rattle.oql_syntax.proofs.QuerySymbols.{Ahead, no_text, LiteralRest, Literal}
+use Rattle.oql_syntax.proofs.QuerySymbols.{Ahead, LiteralRest, Literal}
 use Rattle.oql_syntax.proofs.LevelLaws.{Texts, Inner, Nowhere, Level_of, Closed, CommaLiteral, CloseText, Literals, StructIn, FlattenIn, SomeIn, SetIn, PathLinks, PathBy, MeetLinks, MeetFrom, UnionLinks, PrimRest, Prim, SetsFrom, Sets, CmpFrom}
 use Rattle.oql_syntax.proofs.LevelLaws as levels
-use Rattle.oql_syntax.proofs.LinkedTexts.{linked_to, linked_from, is_open, Fits, fits}
+use Rattle.oql_syntax.proofs.LinkedTexts.{linked_to, linked_from, is_open, Fits}
 use Rattle.oql_syntax.proofs.ModeLaws.{Comparing, CmpChain, cmp_cases, cmp_link, IsRanged}
 
 -- ---- lists

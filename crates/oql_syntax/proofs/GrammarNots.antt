@@ -1,13 +1,11 @@
 -- What the readers read is what the grammar says: not and quantifiers, and the chains of them.
-use Rattle.std.proofs.Common.{◌≡◌, ◌⊎◌, inl, inr, ℕ, zero, suc, Bool, true, false, List, [], ◌∷◌, ◌++◌, Option, Some, None, append_assoc, refl, sym, ap, subst, ◌∙◌}
-use Rattle.std.proofs.lemmas.List.{append-nil}
+use Rattle.std.proofs.Common.{◌≡◌, inl, inr, ℕ, Bool, true, false, List, [], ◌∷◌, ◌++◌, refl, sym, ap, subst, ◌∙◌}
 use Rattle.kola_base.specs.Named.{Named}
 use Rattle.kola_base.specs.Placed.{Placed}
 use Rattle.kola_base.specs.declared.sign.Sign.TheVariants as s
-use Rattle.kola_parse.specs.Kinds.{Lang, leads}
-use Rattle.kola_parse.specs.Texts.{◌·◌, ends, Nothing, Chained, Made, Led}
+use Rattle.kola_parse.specs.Texts.{◌·◌, Made, Led}
 use Rattle.oql_syntax.specs.Alphabet.{Kind, KSign, KWord, KName, kind}
-use Rattle.oql_syntax.specs.Grammar.{Text, ◌▸◌, at, VariableText, NameAtText, OperandsText, OpenLinkedText, Deeper, PrefixedText, NotText, AndText, OrText}
+use Rattle.oql_syntax.specs.Grammar.{Text, ◌▸◌, at, VariableText, NameAtText, Deeper, PrefixedText, NotText, AndText, OrText}
 use Rattle.oql_syntax.specs.QueryTrees.{QueryTree, QNot, QAnd, QOr, QExists, QForAll}
 use Rattle.oql_syntax.specs.QueryReaders.{named, Tailed, with_body, not_tree}
 use Rattle.oql_syntax.specs.Tails.{Tail, Plain, Compared, OpenPlain, OpenCompared, Ranged, Labelled, opened}
@@ -120,8 +118,8 @@ for_all_to n B L same b t e x (u ∷ w) i f h =
     let g = quantified_to B L same (QForAll t.at c.mid.name) e x c.back c.second in
     let name = unplaced c.mid.name c.mid.at c.front (variable_to c.mid c.front c.first) in
     inr (
-      subst (λ d. PrefixedText B d e (t ∷ u ∷ w)) (sym (open_fits b x f g.open_tail))
-      (subst (λ z. PrefixedText B true z (t ∷ u ∷ w)) (sym g.is) ((i, refl), (h.0, record { front = c.front; back = c.back; split = c.split; first = name; second = g.spells })))
+    subst (λ d. PrefixedText B d e (t ∷ u ∷ w)) (sym (open_fits b x f g.open_tail))
+    (subst (λ z. PrefixedText B true z (t ∷ u ∷ w)) (sym g.is) ((i, refl), (h.0, record { front = c.front; back = c.back; split = c.split; first = name; second = g.spells })))
     )
 
 not_rest_to : (n : ℕ) (l : Inner) (B : Deeper) → Agree l B → (b : Bool) (k : Kind) (t : Placed) (e : QueryTree) (x : Tail) (w : List Placed) → kind t ≡ k → Fits b x → NotRest n false l k t.at (e, x) w → NotText n B b e (t ∷ w)
@@ -184,13 +182,12 @@ exists_from n Nowhere B agree p y r e t w u v i j f h = absurd (no_quantified B 
 exists_from n (Level_of L) B same p y r e t w [] v i j f h = absurd f
 exists_from n (Level_of L) B same p y r e t w (a ∷ c ∷ u) v i j f h = absurd f.1
 exists_from n (Level_of L) B same p y r e t w (a ∷ []) v i j f h =
-    let g = quantified_from B L same (QExists t.at y) r e v h in
-    (
+    let g = quantified_from B L same (QExists t.at y) r e v h in (
       g.0,
       tt,
       subst (λ (p : ℕ). OpenNot n false (Level_of L) (QExists p y r e, g.0) (t ∷ w)) i.1
-      (subst (λ (z : List Placed). OpenNot n false (Level_of L) (QExists t.at y r e, g.0) (t ∷ z)) (sym j)
-      (led_not n (Level_of L) t (KWord q.Exists) (QExists t.at y r e, g.0) (a ∷ v) i.0 (subst (λ k. ExistsRest n false (Level_of L) L t.at k (QExists t.at y r e, g.0) v) (sym f.0) g.1))),
+          (subst (λ (z : List Placed). OpenNot n false (Level_of L) (QExists t.at y r e, g.0) (t ∷ z)) (sym j)
+          (led_not n (Level_of L) t (KWord q.Exists) (QExists t.at y r e, g.0) (a ∷ v) i.0 (subst (λ k. ExistsRest n false (Level_of L) L t.at k (QExists t.at y r e, g.0) v) (sym f.0) g.1))),
     )
 
 for_from : (n : ℕ) (l : Inner) (B : Deeper) → Agree l B → (p : ℕ) (y : List ℕ) (r e : QueryTree) (t : Placed) (w : List Placed) → (kind t ≡ KWord q.For) × (t.at ≡ p) → (KWord q.All ▸ (VariableText y · QuantifiedText B r e)) w → Spelled n l true (QForAll p y r e) (t ∷ w)
@@ -199,12 +196,11 @@ for_from n Nowhere B agree p y r e t (u ∷ w) i h = absurd (no_quantified B agr
 for_from n (Level_of L) B same p y r e t (u ∷ w) i h =
     let c = h.1 in
     let g = quantified_from B L same (QForAll t.at y) r e c.back c.second in
-    let name = somewhere y c.front c.first in
-    (
+    let name = somewhere y c.front c.first in (
       g.0,
       tt,
       subst (λ (p : ℕ). OpenNot n false (Level_of L) (QForAll p y r e, g.0) (t ∷ u ∷ w)) i.1
-      (led_not n (Level_of L) t (KWord q.For) (QForAll t.at y r e, g.0) (u ∷ w) i.0 (h.0, record { mid = named y name.0; front = c.front; back = c.back; split = c.split; first = variable_from y name.0 c.front name.1; second = g.1 })),
+          (led_not n (Level_of L) t (KWord q.For) (QForAll t.at y r e, g.0) (u ∷ w) i.0 (h.0, record { mid = named y name.0; front = c.front; back = c.back; split = c.split; first = variable_from y name.0 c.front name.1; second = g.1 })),
     )
 
 prefixed_from : (n : ℕ) (l : Inner) (B : Deeper) → Agree l B → (b : Bool) (e : QueryTree) (w : List Placed) → PrefixedText B b e w → Spelled n l b e w

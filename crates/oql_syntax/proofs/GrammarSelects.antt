@@ -1,28 +1,25 @@
 -- What the readers read is what the grammar says: ranges and selects.
-use Rattle.std.proofs.Common.{◌≡◌, ◌⊎◌, inl, inr, ℕ, zero, suc, Bool, true, false, List, [], ◌∷◌, ◌++◌, Option, Some, None, append_assoc, refl, sym, ap, subst, ◌∙◌}
+use Rattle.std.proofs.Common.{◌≡◌, inl, inr, ℕ, zero, suc, Bool, true, false, List, [], ◌∷◌, ◌++◌, append_assoc, refl, sym, ap, subst, ◌∙◌}
 use Rattle.std.proofs.lemmas.List.{append-nil}
 use Rattle.kola_base.specs.Named.{Named}
 use Rattle.kola_base.specs.Placed.{Placed}
 use Rattle.kola_base.specs.declared.sign.Sign.TheVariants as s
-use Rattle.kola_parse.specs.Kinds.{Lang, leads}
 use Rattle.kola_parse.specs.Listed.{Listed}
-use Rattle.kola_parse.specs.Texts.{◌·◌, ends, Nothing, Chained, Made, Led, ChainText}
+use Rattle.kola_parse.specs.Texts.{◌·◌, ends, Made, Led}
 use Rattle.kola_parse.proofs.ReaderLaws.{nil_of}
 use Rattle.oql_syntax.specs.Alphabet.{Kind, KSign, KWord, KName, kind}
-use Rattle.oql_syntax.specs.Grammar.{Text, ◌▸◌, at, NameAtText, PartedByCommas, Deeper, SetsText, RangeText, WhereText, SelectText, OrText, FullText}
-use Rattle.oql_syntax.specs.QueryTrees.{QueryTree, QName, QSelect, QueryRanges, QueryWhere, NoWhere, Where, ranges, of_ranges}
-use Rattle.oql_syntax.specs.QueryReaders.{named, Tailed, RangeParts, RangesTailed, RangeRead, with_as, with_in, Next, ARange, more_ranges}
-use Rattle.oql_syntax.specs.Tails.{Tail, Plain, Compared, OpenPlain, OpenCompared, Ranged, Labelled, opened}
+use Rattle.oql_syntax.specs.Grammar.{Text, ◌▸◌, at, NameAtText, PartedByCommas, Deeper, RangeText, WhereText, SelectText, FullText}
+use Rattle.oql_syntax.specs.QueryTrees.{QueryTree, QSelect, QueryRanges, QueryWhere, NoWhere, Where, ranges, of_ranges}
+use Rattle.oql_syntax.specs.QueryReaders.{named, Tailed, RangeParts, RangesTailed, RangeRead, with_as, Next, ARange, more_ranges}
+use Rattle.oql_syntax.specs.Tails.{Tail, Ranged, opened}
 use Rattle.oql_syntax.specs.declared.word.QueryWord.TheVariants as q
 use Rattle.oql_syntax.proofs.QuerySymbols.{Ahead, no_text, Variable}
-use Rattle.oql_syntax.proofs.LevelLaws.{Texts, Inner, Nowhere, Level_of, PrimRest, Prim, Sets, CmpFrom, NotRest, OpenNot, OpenOrFrom, SelectRest, Select, FullRest, Full}
-use Rattle.oql_syntax.proofs.RangeLaws.{AsFrom, InRest, RangeRest, Range, NextText, CommaLinks, Ranges}
-use Rattle.oql_syntax.proofs.LinkedTexts.{Fits}
+use Rattle.oql_syntax.proofs.LevelLaws.{Texts, Inner, Nowhere, Level_of, PrimRest, Prim, Sets, NotRest, OpenOrFrom, SelectRest, Select, FullRest, Full}
+use Rattle.oql_syntax.proofs.RangeLaws.{AsFrom, InRest, RangeRest, Range, NextText, Ranges}
 use Rattle.oql_syntax.proofs.FirstParts.{as_first, cmp_first, openor_first}
 use Rattle.oql_syntax.proofs.NextLaws.{as_range}
-use Rattle.oql_syntax.proofs.ModeLaws.{CommaChain, comma_out, comma_into, IsRanged, with_condition, unconditioned, Condition, BehindRanges, SelectForm, select_to, select_from}
-use Rattle.oql_syntax.proofs.Modes.{opening}
-use Rattle.oql_syntax.proofs.GrammarLaws.{Same, Empty, Agree, ranges_of, of_ranges_of, sets_to, sets_from}
+use Rattle.oql_syntax.proofs.ModeLaws.{CommaChain, comma_out, comma_into, IsRanged, with_condition, BehindRanges, SelectForm, select_to, select_from}
+use Rattle.oql_syntax.proofs.GrammarLaws.{Same, Empty, Agree, ranges_of, of_ranges_of}
 use Rattle.oql_syntax.proofs.GrammarNots.{variable_to, variable_from, or_to, or_from}
 
 -- ---- one range
@@ -97,8 +94,7 @@ module _ (n : ℕ) (l : Inner) (B : Deeper) (to : (e : QueryTree) (w : List Plac
   commas_to (suc m) a y (t ∷ w) r h =
       let g = comma_out (NextText n l false) a.1 (kind t) h.mid h.front h.first in
       let one = g.3.part in
-      let d = commas_to m (more_ranges a (ARange one)) y h.back (one.3, refl) (subst (λ (c : Next). CommaChain (NextText n l false) m (more_ranges a c) y h.back) g.3.is h.second) in
-      (
+      let d = commas_to m (more_ranges a (ARange one)) y h.back (one.3, refl) (subst (λ (c : Next). CommaChain (NextText n l false) m (more_ranges a c) y h.back) g.3.is h.second) in (
         (one.0, one.1, one.2) ∷ d.0,
         d.1 ∙ append_assoc a.0 ((one.0, one.1, one.2) ∷ []) d.0,
         d.2,
@@ -127,15 +123,15 @@ module _ (n : ℕ) (l : Inner) (B : Deeper) (to : (e : QueryTree) (w : List Plac
             tail = d.tail;
             ranged = d.ranged;
             spells =
-              subst (CommaChain (NextText n l false) (suc d.count) a (a.0 ++ k ∷ ks, d.tail)) (sym i)
-              (record {
-                mid = c;
-                front = u;
-                back = v;
-                split = refl;
-                first = comma_into (NextText n l false) a.1 (kind t) c u r.0 r.1 f.0 (record { part = (k.0, k.1, k.2, one.0); is = refl; spells = one.1 });
-                second = subst (λ (z : List RangeParts). CommaChain (NextText n l false) d.count (more_ranges a c) (z, d.tail) v) (append_assoc a.0 (k ∷ []) ks) d.spells;
-              });
+                subst (CommaChain (NextText n l false) (suc d.count) a (a.0 ++ k ∷ ks, d.tail)) (sym i)
+                (record {
+                  mid = c;
+                  front = u;
+                  back = v;
+                  split = refl;
+                  first = comma_into (NextText n l false) a.1 (kind t) c u r.0 r.1 f.0 (record { part = (k.0, k.1, k.2, one.0); is = refl; spells = one.1 });
+                  second = subst (λ (z : List RangeParts). CommaChain (NextText n l false) d.count (more_ranges a c) (z, d.tail) v) (append_assoc a.0 (k ∷ []) ks) d.spells;
+                });
           }
 
   pub ranges_to : (rs : List RangeParts) (x : Tail) (w : List Placed) → Ranges n l false (rs, x) w → IsRanged x × PartedByCommas (RangeText B) ends rs w
@@ -229,8 +225,7 @@ module _ (n : ℕ) (B : Deeper) (L : Texts) (same : Same L B) where
       by (a ∷ v) j g =
           let head = h.1.mid in
           let f = form_to t.at head.0 e x v (select_to n false L t.at head.0 (e, x) v g.1) in
-          subst (λ y. SelectText B y (t ∷ d ∷ w)) (sym f.is)
-          (
+          subst (λ y. SelectText B y (t ∷ d ∷ w)) (sym f.is) (
             (i, refl),
             (h.0, record { front = h.1.front; back = a ∷ v; split = j; first = same.full_to head.0 head.1 h.1.front h.1.first; second = (g.0, subst (λ (rs : List RangeParts). Conditioned f.condition rs v) (sym (ranges_of f.ranges)) f.spells) }),
           )
@@ -250,8 +245,7 @@ module _ (n : ℕ) (B : Deeper) (L : Texts) (same : Same L B) where
       by (t ∷ v) j g =
           let r = same.ranges_from (ranges rs) d.front d.first in
           let f = same.full_from e v g.1 in
-          let tree : QSelect p h rs (Where o e) ≡ with_condition p h (ranges rs) t.at e = ap (λ (z : QueryRanges). QSelect p h z (Where o e)) (sym (of_ranges_of rs)) ∙ ap (λ (z : ℕ). with_condition p h (ranges rs) z e) (sym g.0.1) in
-          (
+          let tree : QSelect p h rs (Where o e) ≡ with_condition p h (ranges rs) t.at e = ap (λ (z : QueryRanges). QSelect p h z (Where o e)) (sym (of_ranges_of rs)) ∙ ap (λ (z : ℕ). with_condition p h (ranges rs) z e) (sym g.0.1) in (
             opened f.0,
             record { mid = (ranges rs, r.0); front = d.front; back = t ∷ v; split = j; first = r.2; second = inr (r.1, g.0.0, record { part = (e, f.0); is = ap (λ (z : QueryTree). (z, opened f.0)) tree; spells = f.1 }) },
           )
@@ -265,8 +259,7 @@ module _ (n : ℕ) (B : Deeper) (L : Texts) (same : Same L B) where
       by (a ∷ v) j g =
           let head = same.full_from h k.1.1.front k.1.1.first in
           let f = form_from t.at h rs c v g.1 in
-          let rest = select_from n false L t.at h (QSelect t.at h rs c, f.0) v f.1 in
-          (
+          let rest = select_from n false L t.at h (QSelect t.at h rs c, f.0) v f.1 in (
             f.0,
             (k.1.0, record { mid = (h, head.0); front = k.1.1.front; back = a ∷ v; split = j; first = head.1; second = (g.0, subst (λ (z : ℕ). SelectRest n false L t.at h (QSelect z h rs c, f.0) v) k.0.1 rest) }),
           )

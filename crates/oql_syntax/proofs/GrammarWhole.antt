@@ -1,29 +1,28 @@
 -- What the readers read is what the grammar says: the fields of structs, all levels, and whole queries.
-use Rattle.std.proofs.Common.{◌≡◌, ◌⊎◌, inl, inr, ℕ, zero, suc, Bool, true, false, List, [], ◌∷◌, ◌++◌, Option, Some, None, append_assoc, refl, sym, ap, subst, ◌∙◌}
+use Rattle.std.proofs.Common.{◌≡◌, ◌⊎◌, inl, inr, ℕ, zero, suc, true, false, List, [], ◌∷◌, ◌++◌, append_assoc, refl, sym, ap, subst, ◌∙◌}
 use Rattle.std.proofs.lemmas.List.{append-nil}
-use Rattle.kola_base.specs.Named.{Named, NameText}
+use Rattle.kola_base.specs.Named.{Named}
 use Rattle.kola_base.specs.Placed.{Placed}
 use Rattle.kola_base.specs.declared.sign.Sign.TheVariants as s
-use Rattle.kola_parse.specs.Kinds.{Lang, leads}
 use Rattle.kola_parse.specs.Listed.{Listed}
-use Rattle.kola_parse.specs.Reader.{Round, Again, Final}
+use Rattle.kola_parse.specs.Reader.{Again, Final}
 use Rattle.kola_parse.specs.Reading.{Good}
-use Rattle.kola_parse.specs.Texts.{◌·◌, ends, Nothing, Chained, Made, Led, Maybe, OnRound, FewText, RoundsText}
+use Rattle.kola_parse.specs.Texts.{◌·◌, ends, Nothing, Led, OnRound, FewText, RoundsText}
 use Rattle.kola_parse.proofs.GoodReaders.{good_as}
 use Rattle.kola_parse.proofs.ReaderLaws.{nil_of}
-use Rattle.oql_syntax.specs.Alphabet.{Kind, KSign, KWord, kind}
-use Rattle.oql_syntax.specs.Grammar.{Text, ◌▸◌, PartedByCommas, Deeper, nowhere, FieldText, SetsText, NotText, FullText, deeper_texts, QueryText}
+use Rattle.oql_syntax.specs.Alphabet.{Kind, KSign, kind}
+use Rattle.oql_syntax.specs.Grammar.{Text, ◌▸◌, PartedByCommas, Deeper, nowhere, FieldText, FullText, deeper_texts, QueryText}
 use Rattle.oql_syntax.specs.QueryTrees.{QueryTree}
-use Rattle.oql_syntax.specs.QueryReaders.{named, Tailed, FieldParts, FieldState, FieldRound, next_field, add_field, first_field, Closing, query}
+use Rattle.oql_syntax.specs.QueryReaders.{named, FieldParts, FieldState, FieldRound, next_field, add_field, first_field, Closing, query}
 use Rattle.oql_syntax.specs.Tails.{Tail, Plain, Compared, OpenPlain, OpenCompared, Ranged, Labelled}
-use Rattle.oql_syntax.proofs.QuerySymbols.{Ahead, no_text}
-use Rattle.oql_syntax.proofs.LevelLaws.{Texts, Inner, Nowhere, Level_of, Full}
+use Rattle.oql_syntax.proofs.QuerySymbols.{Ahead}
+use Rattle.oql_syntax.proofs.LevelLaws.{Inner, Full}
 use Rattle.oql_syntax.proofs.WholeQueryLaws as read
 use Rattle.oql_syntax.proofs.WholeQueryLaws.{NextLabel, FieldRest, LastRest, FieldEnd, Fields, texts, inner, always, SemicolonRest, Semicolon, Ending, QueryTextOf, query_good}
 use Rattle.oql_syntax.proofs.Modes.{LabelTail, Extends, Extended, extended, Moded}
-use Rattle.oql_syntax.proofs.ModeLaws.{ModesIn, moded_full, modes}
-use Rattle.oql_syntax.proofs.Unlabelled.{is_labelled, Unlabelled, UnlabelledIn, un_full, all_unlabelled}
-use Rattle.oql_syntax.proofs.GrammarLaws.{Same, Empty, Agree, sets_to, sets_from}
+use Rattle.oql_syntax.proofs.ModeLaws.{moded_full, modes}
+use Rattle.oql_syntax.proofs.Unlabelled.{is_labelled, Unlabelled, un_full, all_unlabelled}
+use Rattle.oql_syntax.proofs.GrammarLaws.{Empty, Agree, sets_to, sets_from}
 use Rattle.oql_syntax.proofs.GrammarNots.{not_to, not_from}
 use Rattle.oql_syntax.proofs.GrammarSelects.{ranges_to, ranges_from, full_to, full_from}
 
@@ -237,17 +236,16 @@ module _ (n : ℕ) (l : Inner) (B : Deeper) (to : (e : QueryTree) (x : Tail) (w 
   few_from (x ∷ gs) a f w h =
       let item = h.second in
       let i = item_split x item.front item.first in
-      let d = few_from gs (add_field a f, x.0, x.1) x.2 (i.back ++ item.back) (record { front = i.back; back = item.back; split = refl; first = i.second; second = item.second }) in
-      (
+      let d = few_from gs (add_field a f, x.0, x.1) x.2 (i.back ++ item.back) (record { front = i.back; back = item.back; split = refl; first = i.second; second = item.second }) in (
         suc d.0,
         record {
           mid = next_field (add_field a f) (named x.0 x.1);
           front = h.front ++ i.front;
           back = i.back ++ item.back;
           split =
-            h.split
-            ∙ ap (λ (z : List Placed). h.front ++ z) (item.split ∙ ap (λ (z : List Placed). z ++ item.back) i.split ∙ append_assoc i.front i.back item.back)
-            ∙ sym (append_assoc h.front i.front (i.back ++ item.back));
+              h.split
+              ∙ ap (λ (z : List Placed). h.front ++ z) (item.split ∙ ap (λ (z : List Placed). z ++ item.back) i.split ∙ append_assoc i.front i.back item.back)
+              ∙ sym (append_assoc h.front i.front (i.back ++ item.back));
           first = round_again a f (named x.0 x.1) (h.front ++ i.front) (record { front = h.front; back = i.front; split = refl; first = h.first; second = i.first });
           second = subst (λ (z : List FieldParts). FewText (read.FieldText (Full n true l)) d.0 (add_field a f, x.0, x.1) (Final z) (i.back ++ item.back)) (append_assoc a.0 ((a.1, a.2, f) ∷ []) (x ∷ gs)) d.1;
         },

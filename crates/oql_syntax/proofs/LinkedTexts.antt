@@ -2,14 +2,13 @@
 use Rattle.std.proofs.Common.{◌≡◌, ◌≤◌, ℕ, zero, suc, Bool, true, false, List, [], ◌∷◌, ◌++◌, length, append_assoc, refl, sym, ap, subst, ◌∙◌, arith}
 use Rattle.std.proofs.lemmas.List.{append-nil}
 use Rattle.kola_base.specs.Placed.{Placed}
-use Rattle.kola_parse.specs.Kinds.{Lang, leads}
+use Rattle.kola_parse.specs.Kinds.{Lang}
 use Rattle.kola_parse.specs.Listed.{Listed}
-use Rattle.kola_parse.specs.Texts.{◌·◌, ends, Chained, Made, ChainText}
-use Rattle.kola_parse.proofs.ReaderLaws.{nil_of}
+use Rattle.kola_parse.specs.Texts.{ends, Chained, Made, ChainText}
 use Rattle.oql_syntax.specs.Alphabet.{Kind, KWord, kind}
 use Rattle.oql_syntax.specs.QueryTrees.{QueryTree, QueryLinks}
 use Rattle.oql_syntax.specs.QueryReaders.{Tailed, OperandsTailed, first_operand, more_operands, chain_tree, joined}
-use Rattle.oql_syntax.specs.Tails.{Tail, Plain, Compared, OpenPlain, OpenCompared, Ranged, Labelled}
+use Rattle.oql_syntax.specs.Tails.{Tail, Plain, Compared}
 use Rattle.oql_syntax.specs.Grammar.{Text, LinkedText, OperandsText, OpenLinkedText, at}
 use Rattle.oql_syntax.specs.declared.word.QueryWord.{QueryWord}
 
@@ -133,8 +132,7 @@ module _ (word : QueryWord) (L : Lang Placed Tailed) (Operand : Bool → QueryTr
   open_to link operand b (suc n) e ls x c u y (t ∷ w) f o h =
       let g = link x t.at (kind t) h.mid h.front h.first in
       let r = open_to link operand b n e (ls ++ (h.mid.0, h.mid.1) ∷ []) h.mid.2 h.mid.1 h.front y h.back f g.3 h.second in
-      let le = r.3 in
-      (
+      let le = r.3 in (
         (h.mid.0, h.mid.1) ∷ r.0,
         r.1,
         r.2 ∙ append_assoc ls ((h.mid.0, h.mid.1) ∷ []) r.0,
@@ -206,16 +204,15 @@ module _ (word : QueryWord) (L : Lang Placed Tailed) (Operand : Bool → QueryTr
               split = r.split;
               first = subst (λ k. Links o.0 t.at k (t.at, l.1, r.tail) r.front) (sym s.0.0) (link o.0 t.at l.1 r.tail r.front o.1 r.spells);
               second =
-                subst (λ (p : ℕ). OpenChain n (e, ls ++ (p, l.1) ∷ [], r.tail) (e, ls ++ l ∷ ks, r.last) r.back) (sym place)
-                (subst (λ (z : List (ℕ × QueryTree)). OpenChain n (e, ls ++ l ∷ [], r.tail) (e, z, r.last) r.back) (append_assoc ls (l ∷ []) ks) r.more);
+                  subst (λ (p : ℕ). OpenChain n (e, ls ++ (p, l.1) ∷ [], r.tail) (e, ls ++ l ∷ ks, r.last) r.back) (sym place)
+                  (subst (λ (z : List (ℕ × QueryTree)). OpenChain n (e, ls ++ l ∷ [], r.tail) (e, z, r.last) r.back) (append_assoc ls (l ∷ []) ks) r.more);
             };
             fit = r.fit;
           }
 
   pub open_linked_from : OpenLinkFrom word L Links → OperandFrom → (make : ℕ → QueryTree → QueryLinks → QueryTree) (n : ℕ) (b : Bool) (e : QueryTree) (w : List Placed) → OpenLinkedText n word Operand make b e w → (x : Tail) × Fits b x × OpenWhole make n (e, x) w
   open_linked_from link operand build n b e w h =
-      let r = open_from link operand b h.links n h.first [] h.first w h.few h.spells in
-      (
+      let r = open_from link operand b h.links n h.first [] h.first w h.few h.spells in (
         r.last,
         r.fit,
         record {

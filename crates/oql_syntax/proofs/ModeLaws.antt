@@ -1,27 +1,21 @@
 -- On every level a text that may take the next label of a struct with it is one that may not, and such a label.
 use Rattle.std.proofs.Common.{◌≡◌, ◌⊎◌, inl, inr, ℕ, zero, suc, Bool, true, false, List, [], ◌∷◌, ◌++◌, Option, Some, None, append_assoc, refl, sym, ap, subst, ◌∙◌}
 use Rattle.std.proofs.lemmas.List.{append-nil}
-use Rattle.kola_base.specs.Lexemes.{Lexeme, LWord, LNumber, LString, LSign}
-use Rattle.kola_base.specs.Named.{Named, name_in, name_of, NameText}
+use Rattle.kola_base.specs.Named.{Named, NameText}
 use Rattle.kola_base.specs.Placed.{Placed}
-use Rattle.kola_base.specs.Signs.{sign_named}
-use Rattle.kola_base.specs.Alphabets.{word_or, sign_or}
-use Rattle.kola_base.specs.declared.sign.Sign.{Sign}
 use Rattle.kola_base.specs.declared.sign.Sign.TheVariants as s
 use Rattle.kola_parse.specs.Kinds.{Lang, leads}
-use Rattle.kola_parse.specs.Moves.{NoText}
-use Rattle.kola_parse.specs.Texts.{◌·◌, ends, Nothing, Chained, Made, Led, Either, ChainText, ManyText}
+use Rattle.kola_parse.specs.Texts.{◌·◌, ends, Nothing, Chained, Made, ChainText}
 use Rattle.kola_parse.proofs.ReaderLaws.{nil_of}
-use Rattle.oql_syntax.specs.Alphabet.{Kind, KSign, KWord, KName, KNumber, KString, KOther, kind, query_word_named}
-use Rattle.oql_syntax.specs.QueryTrees.{LitBool, QueryTree, QName, QLiteral, QNot, QAnd, QOr, QCompare, QExists, QForAll, QSelect, QueryWhere, NoWhere, Where, of_ranges}
-use Rattle.oql_syntax.specs.QueryReaders.{Tailed, RangeParts, RangesTailed, comparison_of, compared, compared_with, placed_operand, more_operands, SelectParts, no_where, with_where, selected, RangeRead, Next, ARange, ALabel, first_range, more_ranges}
-use Rattle.oql_syntax.specs.Tails.{Tail, Plain, Compared, OpenPlain, OpenCompared, Ranged, Labelled, opened}
+use Rattle.oql_syntax.specs.Alphabet.{Kind, KSign, KWord, KName, kind}
+use Rattle.oql_syntax.specs.QueryTrees.{QueryTree, QNot, QAnd, QOr, QCompare, QExists, QForAll, QSelect, QueryWhere, NoWhere, Where, of_ranges}
+use Rattle.oql_syntax.specs.QueryReaders.{Tailed, RangeParts, RangesTailed, comparison_of, compared, placed_operand, SelectParts, no_where, with_where, selected, Next, ARange, ALabel, more_ranges}
+use Rattle.oql_syntax.specs.Tails.{Tail, Plain, Compared, Ranged, Labelled, opened}
 use Rattle.oql_syntax.specs.declared.query.Sign as comparison
-use Rattle.oql_syntax.specs.declared.word.QueryWord.{QueryWord}
 use Rattle.oql_syntax.specs.declared.word.QueryWord.TheVariants as q
-use Rattle.oql_syntax.proofs.QuerySymbols.{Ahead, no_text, Variable}
-use Rattle.oql_syntax.proofs.LevelLaws.{Texts, Inner, Nowhere, Level_of, Deeper, SetsFrom, Sets, ComparisonBy, ComparisonLinks, CmpFrom, SomeIn, PrimRest, no_sets_from, no_made, no_chained, Quantified, ExistsRest, ForAll, NotRest, OpenNot, AndLinks, OrLinks, AndFrom, OrFrom, OpenAnd, OpenOrFrom, WhereLinks, SelectRest, Select, FullRest, Full}
-use Rattle.oql_syntax.proofs.RangeLaws.{AsFrom, InRest, RangeRest, Range, NameNext, OnlyLabel, WholeNext, SetNext, OpenNext, WordNext, NextRest, NextText, CommaLinks, Ranges}
+use Rattle.oql_syntax.proofs.QuerySymbols.{Variable}
+use Rattle.oql_syntax.proofs.LevelLaws.{Texts, Inner, Nowhere, Level_of, Deeper, Sets, ComparisonBy, ComparisonLinks, CmpFrom, SomeIn, PrimRest, Quantified, ExistsRest, NotRest, OpenNot, AndLinks, OrLinks, AndFrom, OpenAnd, OpenOrFrom, WhereLinks, SelectRest, FullRest, Full}
+use Rattle.oql_syntax.proofs.RangeLaws.{NextText, CommaLinks, Ranges}
 use Rattle.oql_syntax.proofs.WholeQueryLaws.{texts, inner}
 use Rattle.oql_syntax.proofs.LinkedTexts.{is_open, OpenLinkTo, OpenLinkFrom}
 use Rattle.oql_syntax.proofs.NextLaws.{NextIs, next_to, next_from}
@@ -376,10 +370,10 @@ module _ (R P : Lang Placed RangesTailed) (F G : Lang Placed Tailed) (ranges : M
             text = one.text ++ t ∷ two.text;
             more = two.more;
             split =
-              i
-              ∙ ap (λ (z : List Placed). z ++ t ∷ u) (one.split ∙ ap (λ (z : List Placed). one.text ++ z) same.1 ∙ append-nil one.text)
-              ∙ ap (λ (z : List Placed). one.text ++ t ∷ z) two.split
-              ∙ sym (append_assoc one.text (t ∷ two.text) two.more);
+                i
+                ∙ ap (λ (z : List Placed). z ++ t ∷ u) (one.split ∙ ap (λ (z : List Placed). one.text ++ z) same.1 ∙ append-nil one.text)
+                ∙ ap (λ (z : List Placed). one.text ++ t ∷ z) two.split
+                ∙ sym (append_assoc one.text (t ∷ two.text) two.more);
             ext = two.ext;
             spells = record { mid = (c.mid.0, one.tail); front = one.text; back = t ∷ two.text; split = refl; first = one.spells; second = inr ((g.0.0, same.0 ∙ g.0.1), g.1, two.spells) };
           }

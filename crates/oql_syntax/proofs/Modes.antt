@@ -1,20 +1,19 @@
 -- A field of a struct that ends in ranges may take the next label with it: what is spelled there is what is spelled elsewhere, and such a label.
-use Rattle.std.proofs.Common.{◌≡◌, ◌⊎◌, inl, inr, ℕ, zero, suc, Bool, true, false, List, [], ◌∷◌, ◌++◌, Option, Some, None, append_assoc, refl, sym, ap, subst, ◌∙◌}
+use Rattle.std.proofs.Common.{◌≡◌, ◌⊎◌, inl, inr, ℕ, zero, suc, Bool, false, List, [], ◌∷◌, ◌++◌, append_assoc, refl, sym, ap, subst, ◌∙◌}
 use Rattle.std.proofs.lemmas.List.{append-nil}
 use Rattle.kola_base.specs.Named.{Named, NameText}
 use Rattle.kola_base.specs.Placed.{Placed}
 use Rattle.kola_base.specs.declared.sign.Sign.TheVariants as s
 use Rattle.kola_parse.specs.Kinds.{Lang, leads}
-use Rattle.kola_parse.specs.Texts.{◌·◌, ends, Nothing, Chained, Made, Led, ChainText}
+use Rattle.kola_parse.specs.Texts.{◌·◌, ends, Chained, Made, Led, ChainText}
 use Rattle.kola_parse.proofs.ReaderLaws.{nil_of}
-use Rattle.oql_syntax.specs.Alphabet.{Kind, KSign, KWord, kind}
+use Rattle.oql_syntax.specs.Alphabet.{Kind, KSign, kind}
 use Rattle.oql_syntax.specs.Grammar.{Text, ◌▸◌}
 use Rattle.oql_syntax.specs.QueryTrees.{QueryTree, QueryLinks}
-use Rattle.oql_syntax.specs.QueryReaders.{Tailed, OperandsTailed, first_operand, more_operands, joined, with_body, not_tree}
+use Rattle.oql_syntax.specs.QueryReaders.{Tailed, OperandsTailed, first_operand, more_operands, joined}
 use Rattle.oql_syntax.specs.Tails.{Tail, Plain, Compared, OpenPlain, OpenCompared, Ranged, Labelled, opened}
 use Rattle.oql_syntax.specs.declared.word.QueryWord.{QueryWord}
 use Rattle.oql_syntax.proofs.QuerySymbols.{no_text}
-use Rattle.oql_syntax.proofs.LevelLaws.{Texts, Inner, Nowhere, Level_of, Deeper}
 use Rattle.oql_syntax.proofs.LinkedTexts.{is_open, OpenLinkTo, OpenLinkFrom}
 
 -- a comma, the label, and its colon

@@ -1,6 +1,5 @@
 -- Behind a comma in a field of a struct stands another range, or the next label and its colon.
-use Rattle.std.proofs.Common.{◌≡◌, ◌⊎◌, inl, inr, ℕ, zero, suc, Bool, true, false, List, [], ◌∷◌, ◌++◌, Option, Some, None, append_assoc, refl, sym, ap, subst, ◌∙◌}
-use Rattle.std.proofs.lemmas.List.{append-nil}
+use Rattle.std.proofs.Common.{◌≡◌, inl, inr, ℕ, Bool, true, false, List, [], ◌∷◌, ◌++◌, Option, Some, None, refl, sym, ap, subst, ◌∙◌}
 use Rattle.kola_base.specs.Lexemes.{Lexeme, LWord, LNumber, LString, LSign}
 use Rattle.kola_base.specs.Named.{Named, name_in, name_of, NameText}
 use Rattle.kola_base.specs.Placed.{Placed}
@@ -8,22 +7,18 @@ use Rattle.kola_base.specs.Signs.{sign_named}
 use Rattle.kola_base.specs.Alphabets.{word_or, sign_or}
 use Rattle.kola_base.specs.declared.sign.Sign.{Sign}
 use Rattle.kola_base.specs.declared.sign.Sign.TheVariants as s
-use Rattle.kola_parse.specs.Kinds.{Lang, leads}
-use Rattle.kola_parse.specs.Moves.{NoText}
-use Rattle.kola_parse.specs.Texts.{◌·◌, ends, Nothing, Chained, Made, Led, Either, ChainText, ManyText}
-use Rattle.kola_parse.proofs.ReaderLaws.{nil_of}
-use Rattle.oql_syntax.specs.Alphabet.{Kind, KSign, KWord, KName, KNumber, KString, KOther, kind, query_word_named}
-use Rattle.oql_syntax.specs.Grammar.{Text, ◌▸◌}
+use Rattle.kola_parse.specs.Kinds.{Lang}
+use Rattle.kola_parse.specs.Texts.{◌·◌, ends, Nothing, Made, Led}
+use Rattle.oql_syntax.specs.Alphabet.{Kind, KSign, KWord, KName, kind, query_word_named}
+use Rattle.oql_syntax.specs.Grammar.{◌▸◌}
 use Rattle.oql_syntax.specs.QueryTrees.{LitBool, QueryTree, QName, QLiteral}
-use Rattle.oql_syntax.specs.QueryReaders.{named, RangeParts, RangesTailed, RangeRead, with_in, Next, ARange, ALabel, first_range, more_ranges}
-use Rattle.oql_syntax.specs.Tails.{Tail, Plain, Compared, OpenPlain, OpenCompared, Ranged, Labelled}
+use Rattle.oql_syntax.specs.QueryReaders.{named, RangeRead, with_in, Next, ARange, ALabel}
 use Rattle.oql_syntax.specs.declared.word.QueryWord.{QueryWord}
 use Rattle.oql_syntax.specs.declared.word.QueryWord.TheVariants as q
 use Rattle.oql_syntax.proofs.QuerySymbols.{Ahead, no_text}
-use Rattle.oql_syntax.proofs.LevelLaws.{Texts, Inner, Nowhere, Level_of, Deeper, Sets, SetIn, StructIn, FlattenIn, SomeIn, PrimRest, no_sets_from, no_made, no_chained}
-use Rattle.oql_syntax.proofs.RangeLaws.{AsFrom, InRest, RangeRest, Range, RangeFrom, NameNext, OnlyLabel, WholeNext, SetNext, OpenNext, WordNext, NextRest, NextText, CommaLinks, Ranges}
+use Rattle.oql_syntax.proofs.LevelLaws.{Texts, Inner, Nowhere, Level_of, Deeper, Sets, SetIn, StructIn, FlattenIn, SomeIn, PrimRest}
+use Rattle.oql_syntax.proofs.RangeLaws.{AsFrom, InRest, RangeRest, Range, RangeFrom, NameNext, OnlyLabel, WholeNext, SetNext, OpenNext, WordNext, NextRest, NextText}
 use Rattle.oql_syntax.proofs.FirstParts.{as_first, ahead_out, ahead_into}
-use Rattle.oql_syntax.proofs.Modes.{LabelTail, Extends, Extended, extended, Moded}
 
 -- a range, or a label and its colon
 abbrev pub NextIs : ℕ → Inner → Lang Placed Next

@@ -1,22 +1,22 @@
 -- Where no label of a struct may follow, no text ends in one.
-use Rattle.std.proofs.Common.{◌≡◌, ◌⊎◌, inl, inr, ℕ, zero, suc, Bool, true, false, List, [], ◌∷◌, Option, Some, None, refl, sym, ap, ◌∙◌}
+use Rattle.std.proofs.Common.{◌≡◌, inl, inr, ℕ, zero, suc, Bool, true, false, List, [], ◌∷◌, refl, ap, ◌∙◌}
 use Rattle.kola_base.specs.Placed.{Placed}
 use Rattle.kola_base.specs.declared.sign.Sign.TheVariants as s
 use Rattle.kola_parse.specs.Kinds.{Lang, leads}
-use Rattle.kola_parse.specs.Texts.{Nothing, Chained, Made, Led, ChainText}
+use Rattle.kola_parse.specs.Texts.{Chained, Made, Led, ChainText}
 use Rattle.oql_syntax.specs.Alphabet.{Kind, KSign, KWord, KName, kind}
 use Rattle.oql_syntax.specs.QueryTrees.{QueryTree, QueryLinks, QNot, QAnd, QOr, QExists, QForAll}
-use Rattle.oql_syntax.specs.QueryReaders.{Tailed, RangesTailed, Next, ARange, more_ranges, OperandsTailed, first_operand, more_operands, joined}
+use Rattle.oql_syntax.specs.QueryReaders.{Tailed, RangesTailed, Next, more_ranges, OperandsTailed, first_operand, more_operands, joined}
 use Rattle.oql_syntax.specs.Tails.{Tail, Plain, Compared, OpenPlain, OpenCompared, Ranged, Labelled, opened}
 use Rattle.oql_syntax.specs.declared.word.QueryWord.{QueryWord}
 use Rattle.oql_syntax.specs.declared.word.QueryWord.TheVariants as q
-use Rattle.oql_syntax.proofs.QuerySymbols.{no_text, Variable}
-use Rattle.oql_syntax.proofs.LevelLaws.{Texts, Inner, Nowhere, Level_of, Deeper, CmpFrom, SomeIn, PrimRest, Quantified, ExistsRest, ForAll, NotRest, OpenNot, AndLinks, OrLinks, AndFrom, OpenAnd, OpenOrFrom, SelectRest, Select, FullRest, Full}
+use Rattle.oql_syntax.proofs.QuerySymbols.{Variable}
+use Rattle.oql_syntax.proofs.LevelLaws.{Texts, Inner, Nowhere, Level_of, Deeper, CmpFrom, SomeIn, PrimRest, Quantified, ExistsRest, NotRest, OpenNot, AndLinks, OrLinks, AndFrom, OpenAnd, OpenOrFrom, SelectRest, FullRest, Full}
 use Rattle.oql_syntax.proofs.RangeLaws.{NextText, CommaLinks, Ranges}
 use Rattle.oql_syntax.proofs.WholeQueryLaws.{texts, inner}
 use Rattle.oql_syntax.proofs.LinkedTexts.{is_open, OpenLinkTo}
 use Rattle.oql_syntax.proofs.Modes.{kept, opening}
-use Rattle.oql_syntax.proofs.ModeLaws.{cmp_closed, and_out, or_out, comma_out, BehindRanges, Condition, SelectForm, select_to}
+use Rattle.oql_syntax.proofs.ModeLaws.{cmp_closed, and_out, or_out, comma_out, BehindRanges, SelectForm, select_to}
 
 abbrev pub is_labelled : Tail → Bool
 is_labelled (Labelled x p) = true
@@ -77,9 +77,9 @@ un_linked : (word : QueryWord) (build : ℕ → QueryTree → QueryLinks → Que
     → Unlabelled (Made (joined build) (Chained (Made first_operand P) (λ x. ChainText (λ (x : OperandsTailed) t. Links x.2 t.at (kind t)) more_operands n x)))
 un_linked word build n L P Links out h g = record {
   is = λ e x w m.
-    let c = m.spells in
-    let v = c.first.part in
-    ap (λ (z : Tailed). is_labelled z.1) m.is ∙ un_chain word L Links out h n c.mid m.part c.back (ap (λ (z : OperandsTailed). is_labelled z.2) c.first.is ∙ g.is v.0 v.1 c.front c.first.spells) c.second;
+      let c = m.spells in
+      let v = c.first.part in
+      ap (λ (z : Tailed). is_labelled z.1) m.is ∙ un_chain word L Links out h n c.mid m.part c.back (ap (λ (z : OperandsTailed). is_labelled z.2) c.first.is ∙ g.is v.0 v.1 c.front c.first.spells) c.second;
 }
 
 -- ---- levels

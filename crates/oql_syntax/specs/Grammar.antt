@@ -1,5 +1,5 @@
 -- Which tokens spell a query: one definition for each line of the grammar. n is how many links a chain may have.
-use Rattle.std.specs.Prelude.{◌≡◌, ◌⊎◌, ◌≤◌, ℕ, zero, suc, length, Bool, true, false, List, [], ◌∷◌, Option, Some, None}
+use Rattle.std.specs.Prelude.{◌≡◌, ◌⊎◌, ◌≤◌, ℕ, zero, suc, length, Bool, true, false, List, [], ◌∷◌, Some}
 use Rattle.kola_base.specs.Named.{NameText}
 use Rattle.kola_base.specs.Placed.{Placed}
 use Rattle.kola_base.specs.declared.sign.Sign.TheVariants as s
@@ -8,7 +8,7 @@ use Rattle.kola_parse.specs.Listed.{Listed}
 use Rattle.kola_parse.specs.Texts.{◌·◌, ends, none}
 use Rattle.oql_syntax.specs.Alphabet.{Kind, KSign, KWord, KName, kind}
 use Rattle.oql_syntax.specs.QueryTrees.{LitTree, QueryTree, QName, QLiteral, QSetOf, QStruct, QFlatten, QSomeMember, QNot, QIntersect, QAnd, QOr, QCompare, QExists, QForAll, QSelect, QueryLinks, QueryWhere, NoWhere, Where, fields, ranges}
-use Rattle.oql_syntax.specs.QueryReaders.{named, literal_of, path_tree, chain_tree, union_tree, comparison_of}
+use Rattle.oql_syntax.specs.QueryParts.{named, literal_of, path_tree, chain_tree, union_tree, comparison_of}
 use Rattle.oql_syntax.specs.declared.query.Sign.{Sign}
 use Rattle.oql_syntax.specs.declared.word.QueryWord.{QueryWord}
 use Rattle.oql_syntax.specs.declared.word.QueryWord.TheVariants as q

@@ -55,10 +55,10 @@ module _ (n : ℕ) (l : Inner) (B : Deeper) (to : (e : QueryTree) (w : List Plac
   range_to r [] h = absurd h
   range_to r (t ∷ w) h = range_rest_to t (kind t) r w refl h
 
-  abbrev Somehow : RangeParts → List Placed → Type 0
-  Somehow r w = (b : Bool) × Range n l (r.0, r.1, r.2, b) w
+  abbrev InOrAs : RangeParts → List Placed → Type 0
+  InOrAs r w = (b : Bool) × Range n l (r.0, r.1, r.2, b) w
 
-  in_from : (r : RangeParts) (w u v : List Placed) → w ≡ u ++ v → NameAtText r.0 r.1 u → (KWord q.In ▸ B.sets r.2) v → Somehow r w
+  in_from : (r : RangeParts) (w u v : List Placed) → w ≡ u ++ v → NameAtText r.0 r.1 u → (KWord q.In ▸ B.sets r.2) v → InOrAs r w
   in_from r w [] v i f g = absurd f
   in_from r w (t ∷ a ∷ u) v i f g = absurd f.1
   in_from r w (t ∷ []) [] i f g = absurd g
@@ -71,14 +71,14 @@ module _ (n : ℕ) (l : Inner) (B : Deeper) (to : (e : QueryTree) (w : List Plac
   as_led r [] h = absurd h
   as_led r (t ∷ w) h = as_range n l (kind t) t.at r w h
 
-  as_from : (r : RangeParts) (w u v : List Placed) → w ≡ u ++ v → B.sets r.2 u → (KWord q.As ▸ NameAtText r.0 r.1) v → Somehow r w
+  as_from : (r : RangeParts) (w u v : List Placed) → w ≡ u ++ v → B.sets r.2 u → (KWord q.As ▸ NameAtText r.0 r.1) v → InOrAs r w
   as_from r w u [] i f g = absurd g
   as_from r w u (t ∷ v) i f g =
       let read : RangeRead = (r.0, r.1, r.2, true) in
       let whole : AsFrom n l (Prim l) read w = record { mid = r.2; front = u; back = t ∷ v; split = i; first = from r.2 u f; second = (g.0, record { part = named r.0 r.1; is = refl; spells = variable_from r.0 r.1 v g.1 }) } in
       (true, as_led read w ((as_first n l).into (λ t. PrimRest l (kind t) t.at) read w whole))
 
-  pub range_from : (r : RangeParts) (w : List Placed) → RangeText B r w → Somehow r w
+  pub range_from : (r : RangeParts) (w : List Placed) → RangeText B r w → InOrAs r w
   range_from r w (inl h) = in_from r w h.front h.back h.split h.first h.second
   range_from r w (inr h) = as_from r w h.front h.back h.split h.first h.second
 

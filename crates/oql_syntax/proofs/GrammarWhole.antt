@@ -42,8 +42,8 @@ labels_same z p x e fs = ap (λ (y : Tail). (fs, (label_of y).0, (label_of y).1)
 
 module _ (n : ℕ) (l : Inner) (B : Deeper) (to : (e : QueryTree) (x : Tail) (w : List Placed) → Full n false l (e, x) w → B.full e w) (from : (e : QueryTree) (w : List Placed) → B.full e w → (x : Tail) × Full n false l (e, x) w)
     (moded : Moded (Full n true l) (Full n false l)) (bare : Unlabelled (Full n false l)) where
-  abbrev Round_ : FieldState → FieldRound → Text
-  Round_ a r = read.FieldText (Full n true l) a r
+  abbrev ReadRound : FieldState → FieldRound → Text
+  ReadRound a r = read.FieldText (Full n true l) a r
 
   abbrev RoundIs : FieldState → FieldRound → Text
   RoundIs a (Final fs) w = (f : QueryTree) × (fs ≡ add_field a f) × (B.full f · KSign s.Close ▸ ends) w
@@ -90,7 +90,7 @@ module _ (n : ℕ) (l : Inner) (B : Deeper) (to : (e : QueryTree) (x : Tail) (w 
       by (inl h) = absurd (let e = sym (ap is_labelled h.0) ∙ bare.is f one.tail one.text one.spells in cc)
       by (inr (b, x, j, k, h)) = subst (λ y. RoundIs a y w) (sym g.0) (f, x, labels_same z p x k (add_field a f), record { front = one.text; back = one.more; split = whole ∙ one.split; first = to f one.tail one.text one.spells; second = h })
 
-  round_to : (a : FieldState) (r : FieldRound) (w : List Placed) → Round_ a r w → RoundIs a r w
+  round_to : (a : FieldState) (r : FieldRound) (w : List Placed) → ReadRound a r w → RoundIs a r w
   round_to a r w c = by c.mid.1 c.first c.second
     where
       by : (y : Tail) → Full n true l (c.mid.0, y) c.front → FieldEnd (add_field a c.mid.0) y r c.back → RoundIs a r w
@@ -125,7 +125,7 @@ module _ (n : ℕ) (l : Inner) (B : Deeper) (to : (e : QueryTree) (x : Tail) (w 
   comma_end fs x (t ∷ v) h =
       subst (λ k. FieldRest fs k (next_field fs x) v) (sym h.0) (record { mid = x; front = h.1.front; back = h.1.back; split = h.1.split; first = h.1.first; second = colon_end (next_field fs x) h.1.back h.1.second })
 
-  round_final : (a : FieldState) (f : QueryTree) (w : List Placed) → (B.full f · KSign s.Close ▸ ends) w → Round_ a (Final (add_field a f)) w
+  round_final : (a : FieldState) (f : QueryTree) (w : List Placed) → (B.full f · KSign s.Close ▸ ends) w → ReadRound a (Final (add_field a f)) w
   round_final a f w h =
       let g = from f h.front h.first in
       record {
@@ -137,14 +137,14 @@ module _ (n : ℕ) (l : Inner) (B : Deeper) (to : (e : QueryTree) (x : Tail) (w 
         second = close_end (add_field a f) g.0 h.back (bare.is f g.0 h.front g.1) h.second;
       }
 
-  round_again : (a : FieldState) (f : QueryTree) (x : Named) (w : List Placed) → (B.full f · LabelTail x) w → Round_ a (next_field (add_field a f) x) w
+  round_again : (a : FieldState) (f : QueryTree) (x : Named) (w : List Placed) → (B.full f · LabelTail x) w → ReadRound a (next_field (add_field a f) x) w
   round_again a f x w h = by (from f h.front h.first).0 (from f h.front h.first).1
     where
-      open_end : (y : Tail) → Full n false l (f, y) h.front → FieldEnd (add_field a f) y (next_field (add_field a f) x) h.back → Round_ a (next_field (add_field a f) x) w
+      open_end : (y : Tail) → Full n false l (f, y) h.front → FieldEnd (add_field a f) y (next_field (add_field a f) x) h.back → ReadRound a (next_field (add_field a f) x) w
       open_end y g e =
           record { mid = (f, y); front = h.front; back = h.back; split = h.split; first = moded.from f y h.front (extended (λ x. Full n false l (f, x)) y h.front g); second = e }
 
-      by : (y : Tail) → Full n false l (f, y) h.front → Round_ a (next_field (add_field a f) x) w
+      by : (y : Tail) → Full n false l (f, y) h.front → ReadRound a (next_field (add_field a f) x) w
       by (Labelled z p) g = absurd (let e = bare.is f (Labelled z p) h.front g in cc)
       by (Ranged b) g =
           record {
@@ -165,8 +165,8 @@ module _ (n : ℕ) (l : Inner) (B : Deeper) (to : (e : QueryTree) (x : Tail) (w 
   abbrev CommaField : List ℕ × ℕ × QueryTree → Text
   CommaField f = KSign s.Comma ▸ FieldText B f
 
-  abbrev Close_ : Text
-  Close_ = KSign s.Close ▸ ends
+  abbrev CloseText : Text
+  CloseText = KSign s.Close ▸ ends
 
   colon_join : (f : QueryTree) (v u : List Placed) → (KSign s.Colon ▸ ends) v → B.full f u → (KSign s.Colon ▸ B.full f) (v ++ u)
   colon_join f [] u h g = absurd h
@@ -193,23 +193,23 @@ module _ (n : ℕ) (l : Inner) (B : Deeper) (to : (e : QueryTree) (x : Tail) (w 
           }
 
   -- a field, and those behind it
-  record Rounds_ (a : FieldState) (fs : List FieldParts) (w : List Placed) : Type 0 where
+  record ReadFields (a : FieldState) (fs : List FieldParts) (w : List Placed) : Type 0 where
     one : QueryTree
     others : List FieldParts
     is : fs ≡ a.0 ++ (a.1, a.2, one) ∷ others
-    spells : (B.full one · Listed CommaField Close_ others) w
+    spells : (B.full one · Listed CommaField CloseText others) w
 
-  few_to : (k : ℕ) (a : FieldState) (fs : List FieldParts) (w : List Placed) → FewText (read.FieldText (Full n true l)) k a (Final fs) w → Rounds_ a fs w
+  few_to : (k : ℕ) (a : FieldState) (fs : List FieldParts) (w : List Placed) → FewText (read.FieldText (Full n true l)) k a (Final fs) w → ReadFields a fs w
   few_to zero a fs w h = let g = round_to a (Final fs) w h in record { one = g.0; others = []; is = g.1; spells = g.2 }
   few_to (suc k) a fs w c = by (λ st v h. few_to k st fs v h) c.mid c.second (round_to a c.mid c.front c.first)
     where
       same_final : (gs hs : List FieldParts) → (let x : FieldRound = Final gs in x ≡ Final hs) → gs ≡ hs
       same_final gs hs e = cc
 
-      by : ((st : FieldState) (v : List Placed) → FewText (read.FieldText (Full n true l)) k st (Final fs) v → Rounds_ st fs v) → (r : FieldRound) → OnRound (FewText (read.FieldText (Full n true l)) k) r (Final fs) c.back → RoundIs a r c.front → Rounds_ a fs w
+      by : ((st : FieldState) (v : List Placed) → FewText (read.FieldText (Full n true l)) k st (Final fs) v → ReadFields st fs v) → (r : FieldRound) → OnRound (FewText (read.FieldText (Full n true l)) k) r (Final fs) c.back → RoundIs a r c.front → ReadFields a fs w
       by go (Final gs) h g =
           let whole : w ≡ c.front = c.split ∙ ap (λ (z : List Placed). c.front ++ z) (nil_of c.back h.1) ∙ append-nil c.front in
-          record { one = g.0; others = []; is = same_final fs gs h.0 ∙ g.1; spells = subst (B.full g.0 · Close_) (sym whole) g.2 }
+          record { one = g.0; others = []; is = same_final fs gs h.0 ∙ g.1; spells = subst (B.full g.0 · CloseText) (sym whole) g.2 }
       by go (Again st) h (f, x, i, g) =
           let d = go (add_field a f, x.name, x.at) c.back (subst (λ (z : FieldState). FewText (read.FieldText (Full n true l)) k z (Final fs) c.back) i h) in
           record {
@@ -231,7 +231,7 @@ module _ (n : ℕ) (l : Inner) (B : Deeper) (to : (e : QueryTree) (x : Tail) (w 
             };
           }
 
-  few_from : (gs : List FieldParts) (a : FieldState) (f : QueryTree) (w : List Placed) → (B.full f · Listed CommaField Close_ gs) w → (k : ℕ) × FewText (read.FieldText (Full n true l)) k a (Final (a.0 ++ (a.1, a.2, f) ∷ gs)) w
+  few_from : (gs : List FieldParts) (a : FieldState) (f : QueryTree) (w : List Placed) → (B.full f · Listed CommaField CloseText gs) w → (k : ℕ) × FewText (read.FieldText (Full n true l)) k a (Final (a.0 ++ (a.1, a.2, f) ∷ gs)) w
   few_from [] a f w h = (0, round_final a f w h)
   few_from (x ∷ gs) a f w h =
       let item = h.second in
@@ -251,14 +251,14 @@ module _ (n : ℕ) (l : Inner) (B : Deeper) (to : (e : QueryTree) (x : Tail) (w 
         },
       )
 
-  pub fields_to : (fs : List FieldParts) (w : List Placed) → Fields n l fs w → PartedByCommas (FieldText B) Close_ fs w
+  pub fields_to : (fs : List FieldParts) (w : List Placed) → Fields n l fs w → PartedByCommas (FieldText B) CloseText fs w
   fields_to fs w c = by c.back c.split c.second
     where
-      by : (v : List Placed) → w ≡ c.front ++ v → Ahead (KSign s.Colon) (RoundsText (read.FieldText (Full n true l)) (first_field c.mid)) fs v → PartedByCommas (FieldText B) Close_ fs w
+      by : (v : List Placed) → w ≡ c.front ++ v → Ahead (KSign s.Colon) (RoundsText (read.FieldText (Full n true l)) (first_field c.mid)) fs v → PartedByCommas (FieldText B) CloseText fs w
       by [] i g = absurd g
       by (t ∷ v) i g =
           let d = few_to g.1.0 (first_field c.mid) fs v g.1.1 in
-          subst (λ (z : List FieldParts). PartedByCommas (FieldText B) Close_ z w) (sym d.is)
+          subst (λ (z : List FieldParts). PartedByCommas (FieldText B) CloseText z w) (sym d.is)
           (record {
             front = c.front ++ t ∷ d.spells.front;
             back = d.spells.back;
@@ -267,7 +267,7 @@ module _ (n : ℕ) (l : Inner) (B : Deeper) (to : (e : QueryTree) (x : Tail) (w 
             second = d.spells.second;
           })
 
-  pub fields_from : (fs : List FieldParts) (w : List Placed) → PartedByCommas (FieldText B) Close_ fs w → Fields n l fs w
+  pub fields_from : (fs : List FieldParts) (w : List Placed) → PartedByCommas (FieldText B) CloseText fs w → Fields n l fs w
   fields_from [] w h = absurd h
   fields_from (x ∷ gs) w h = by h.first.back h.first.split h.first.second
     where

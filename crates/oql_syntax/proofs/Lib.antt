@@ -14,3 +14,4 @@ pub mod GrammarNots
 pub mod Unlabelled
 pub mod GrammarSelects
 pub mod GrammarWhole
+pub mod QueryFaultLaws

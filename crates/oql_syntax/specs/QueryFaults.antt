@@ -1,7 +1,10 @@
--- Why a query is at fault where its syntax is. L n x w says that the tokens w spell x with at most n links and levels.
-use Rattle.std.specs.Prelude.{◌≡◌, ℕ, ◌&&◌, not, Bool, true, false, List, [], ◌∷◌, Option, Some, None, codes}
+-- Why a query is at fault, and where. L n x w says that the tokens w spell x with at most n links and levels.
+use Rattle.std.specs.Prelude.{◌≡◌, ℕ, ◌&&◌, not, Bool, true, false, List, [], ◌∷◌, length, Option, Some, None, codes}
 use Rattle.kola_base.specs.Lexemes.{Lexeme, LWord}
-use Rattle.kola_base.specs.Placed.{Placed, place}
+use Rattle.kola_base.specs.Tokens.{AreTokens, StopsAt}
+use Rattle.kola_base.specs.declared.lex.LexWhy.{LexWhy}
+use Rattle.kola_base.specs.declared.lex.Token.{Token}
+use Rattle.kola_base.specs.Placed.{Placed, placed, place}
 use Rattle.kola_base.specs.declared.sign.Sign.TheVariants as s
 use Rattle.kola_parse.specs.declared.why.Why.{Why}
 use Rattle.kola_parse.specs.declared.why.Why.TheVariants as why
@@ -11,6 +14,8 @@ use Rattle.oql_syntax.specs.Alphabet.{Kind, KSign, KWord, KOther, kind}
 use Rattle.oql_syntax.specs.declared.word.QueryWord.TheVariants as q
 
 pub data QueryCause : Type 0 where
+  -- the text has no tokens
+  CLex : (why : LexWhy) → QueryCause
   CUnexpected : QueryCause
   CTooDeep : QueryCause
   -- the word that stands for what queries leave out
@@ -63,3 +68,14 @@ pub record QueryFaultsAt {A : Type 0} (L : ℕ → A → List Placed → Type 0)
   pub first : IsFirstFault (Accepted L n) (Unlimited L) ts fault
   pub is_at : at ≡ place end fault.rest
   pub is_cause : c ≡ cause_by fault.why (word_outside first.before fault.rest)
+
+-- the tokens of the text are at fault first at this place, for this reason
+pub record QuerySyntaxAt {A : Type 0} (L : ℕ → A → List Placed → Type 0) (n : ℕ) (text : List ℕ) (at : ℕ) (c : QueryCause) : Type 0 where
+  pub tokens : List Token
+  pub are : AreTokens tokens text
+  pub faults : QueryFaultsAt L n (placed text tokens) (length text) at c
+
+-- a query is at fault where it has no tokens, and else where its syntax is
+abbrev pub FaultOfQuery : {A : Type 0} → (ℕ → A → List Placed → Type 0) → ℕ → List ℕ → ℕ → QueryCause → Type 0
+FaultOfQuery L n text at (CLex w) = StopsAt text at w
+FaultOfQuery L n text at c = QuerySyntaxAt L n text at c

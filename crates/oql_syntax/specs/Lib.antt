@@ -5,3 +5,4 @@ pub mod QueryParts
 pub mod QueryReaders
 pub mod QueryFaults
 pub mod Grammar
+pub mod Limits

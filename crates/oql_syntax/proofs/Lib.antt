@@ -16,3 +16,4 @@ pub mod GrammarSelects
 pub mod GrammarWhole
 pub mod QueryFaultLaws
 pub mod QueryNames
+pub mod SelectLaws

@@ -1,5 +1,5 @@
 -- Which `select` of a query is a label: behind any other one, and only there, `distinct` stands.
-use Rattle.std.proofs.Common.{◌≡◌, ◌⊎◌, inl, inr, ℕ, zero, suc, Bool, true, false, List, [], ◌∷◌, ◌++◌, Option, Some, None, append_assoc, refl, sym, ap, subst, ◌∙◌}
+use Rattle.std.proofs.Common.{◌≡◌, ◌⊎◌, inl, inr, ℕ, zero, suc, Bool, true, false, List, [], ◌∷◌, ◌++◌, Some, append_assoc, refl, sym, ap, subst, ◌∙◌}
 use Rattle.std.specs.Prelude.{◌&&◌, not}
 use Rattle.kola_base.specs.Placed.{Placed}
 use Rattle.kola_base.specs.declared.sign.Sign.TheVariants as s
@@ -7,13 +7,12 @@ use Rattle.kola_parse.specs.Faults.{Unlimited, Begins}
 use Rattle.kola_parse.specs.Kinds.{leads}
 use Rattle.kola_parse.specs.Listed.{Listed}
 use Rattle.kola_parse.specs.Texts.{◌·◌, ends, none}
-use Rattle.kola_parse.proofs.ReaderLaws.{nil_of}
 use Rattle.oql_syntax.specs.Alphabet.{Kind, KSign, KWord, KName, KNumber, KString, KOther, kind}
-use Rattle.oql_syntax.specs.Grammar.{Text, ◌▸◌, at, VariableText, NameAtText, LabelText, LiteralText, ComparisonAt, PartedByCommas, LinkedText, OperandsText, OpenLinkedText, Deeper, nowhere, FieldText, ItselfText, PrimText, PathText, MeetText, union_word, SetsText, ComparedText, CmpText, PrefixedText, NotText, AndText, OrText, RangeText, WhereText, SelectText, FullText, deeper_texts, QueryText}
+use Rattle.oql_syntax.specs.Grammar.{Text, ◌▸◌, at, VariableText, NameAtText, LabelText, LiteralText, PartedByCommas, LinkedText, OperandsText, OpenLinkedText, Deeper, FieldText, ItselfText, PrimText, PathText, MeetText, union_word, SetsText, ComparedText, PrefixedText, NotText, AndText, OrText, RangeText, WhereText, SelectText, FullText, deeper_texts, QueryText}
 use Rattle.oql_syntax.specs.Limits.{QueryWithin}
-use Rattle.oql_syntax.specs.QueryFaults.{is_label_behind, is_select, ends_in_select}
+use Rattle.oql_syntax.specs.QueryFaults.{is_label_behind, is_select, ends_in_select, last_is_select, DistinctMayFollow}
 use Rattle.oql_syntax.specs.QueryParts.{literal_of, comparison_of}
-use Rattle.oql_syntax.specs.QueryTrees.{LitTree, QueryTree, QName, QLiteral, QSetOf, QPath, QStruct, QFlatten, QSomeMember, QNot, QIntersect, QAnd, QOr, QUnionExcept, QCompare, QExists, QForAll, QSelect, QueryWhere, NoWhere, Where, fields, ranges}
+use Rattle.oql_syntax.specs.QueryTrees.{LitTree, QueryTree, QName, QLiteral, QSetOf, QStruct, QFlatten, QSomeMember, QNot, QAnd, QOr, QCompare, QExists, QForAll, QSelect, QueryWhere, NoWhere, Where, fields, ranges}
 use Rattle.oql_syntax.specs.declared.query.Sign.{Sign}
 use Rattle.oql_syntax.specs.declared.word.QueryWord.{QueryWord}
 use Rattle.oql_syntax.specs.declared.word.QueryWord.TheVariants as q
@@ -311,7 +310,7 @@ module _ (B : Deeper) (h : Pieces B) where
     piece_range : (r : List ℕ × ℕ × QueryTree) → Piece Operand (RangeText B r)
     piece_range r =
         piece_or (piece_then (anywhere (piece_name r.0 r.1)) (piece_kind {C = Any} {D = Operand} (KWord q.In) refl refl (λ j k c. refl) (h.sets r.2).is))
-          (piece_then (h.sets r.2) (piece_kind {C = Any} {D = Any} (KWord q.As) refl refl (λ j k c. tt) (piece_name r.0 r.1).is))
+        (piece_then (h.sets r.2) (piece_kind {C = Any} {D = Any} (KWord q.As) refl refl (λ j k c. tt) (piece_name r.0 r.1).is))
 
     piece_where : (c : QueryWhere) → Piece Any (WhereText B c)
     piece_where NoWhere = piece_ends {C = Any}
@@ -323,14 +322,13 @@ module _ (B : Deeper) (h : Pieces B) where
     select_is : (e : QueryTree) → Behind Whole (SelectText B e)
     select_is (QSelect p e rs c) j k f [] g = absurd g
     select_is (QSelect p e rs c) j k f (t ∷ []) g = absurd g.1
-    select_is (QSelect p e rs c) j k f (t ∷ d ∷ w) g =
-        (
-          subst (λ b. Here b (is_label_behind j k) (d ∷ w)) (sym (ap is_select g.0.0)) (subst (λ b. Here true b (d ∷ w)) (sym f.0) g.1.0),
-          (
-            subst (λ b. Here b (is_label_behind k (kind t)) w) (sym (ap is_select g.1.0)) tt,
-            subst (λ y. Selects (kind t) y w) (sym g.1.0) ((piece_then (h.full e) (from_ranges c (ranges rs))).is (kind t) (KWord q.Distinct) (refl, refl) w g.1.1),
-          ),
-        )
+    select_is (QSelect p e rs c) j k f (t ∷ d ∷ w) g = (
+      subst (λ b. Here b (is_label_behind j k) (d ∷ w)) (sym (ap is_select g.0.0)) (subst (λ b. Here true b (d ∷ w)) (sym f.0) g.1.0),
+      (
+        subst (λ b. Here b (is_label_behind k (kind t)) w) (sym (ap is_select g.1.0)) tt,
+        subst (λ y. Selects (kind t) y w) (sym g.1.0) ((piece_then (h.full e) (from_ranges c (ranges rs))).is (kind t) (KWord q.Distinct) (refl, refl) w g.1.1),
+      ),
+    )
     select_is _ j k f w g = absurd g
 
     select_starts : (e : QueryTree) (w : List Placed) → SelectText B e w → NoDistinct w
@@ -351,3 +349,37 @@ pieces n (suc d) =
 pub query_selects : (n d : ℕ) (x : QueryTree) (w : List Placed) → QueryText n d x w → Selects KOther KOther w
 query_selects n d x w h =
     (piece_then (piece_full (deeper_texts n d) (pieces n d) n x) (piece_or (piece_ends {C = Any}) (piece_kind {C = Any} {D = Any} (KSign s.Semicolon) refl refl (λ j k c. tt) (at_end Any)))).is KOther KOther (refl, refl) w h
+
+-- ---- the last token of what stands before a fault
+
+wants_at : (b c : Bool) (u : List Placed) → (b && not c) ≡ true → Here b c u → DistinctFirst u
+wants_at true true u e h = absurd cc
+wants_at true false u e h = h
+wants_at false c u e h = absurd cc
+
+wants : (j k : Kind) (w u : List Placed) → ends_in_select j k w ≡ true → Selects j k (w ++ u) → DistinctFirst u
+wants j k [] u e h = absurd cc
+wants j k (t ∷ []) u e h = wants_at (is_select (kind t)) (is_label_behind j k) u e h.0
+wants j k (t ∷ v ∷ w) u e h = wants k (kind t) (v ∷ w) u e h.1
+
+takes_at : (b c : Bool) (d : Placed) (u : List Placed) → b ≡ true → kind d ≡ KWord q.Distinct → Here b c (d ∷ u) → (b && not c) ≡ true
+takes_at true true d u b i h = absurd (let e = sym (ap is_distinct i) ∙ h in cc)
+takes_at true false d u b i h = refl
+takes_at false c d u b i h = absurd cc
+
+takes : (j k : Kind) (w : List Placed) (d : Placed) (u : List Placed) → last_is_select w ≡ true → kind d ≡ KWord q.Distinct → Selects j k (w ++ d ∷ u) → ends_in_select j k w ≡ true
+takes j k [] d u e i h = absurd cc
+takes j k (t ∷ []) d u e i h = takes_at (is_select (kind t)) (is_label_behind j k) d u e i h.0
+takes j k (t ∷ v ∷ w) d u e i h = takes k (kind t) (v ∷ w) d u e i h.1
+
+by_first : (w u : List Placed) → DistinctFirst u → Unlimited QueryWithin (w ++ u) → DistinctMayFollow (Unlimited QueryWithin) w
+by_first w [] f h = absurd f
+by_first w (d ∷ u) f h = (d, f, (u, subst (Unlimited QueryWithin) (sym (append_assoc w (d ∷ []) u)) h))
+
+-- behind a select that is no label a `distinct` may follow
+pub select_wants_distinct : (before : List Placed) → Begins (Unlimited QueryWithin) before → ends_in_select KOther KOther before ≡ true → DistinctMayFollow (Unlimited QueryWithin) before
+select_wants_distinct before (u, (n, x, h)) e = by_first before u (wants KOther KOther before u e (query_selects n n x (before ++ u) h)) (n, x, h)
+
+-- and behind no other
+pub only_a_select_does : (before : List Placed) → last_is_select before ≡ true → DistinctMayFollow (Unlimited QueryWithin) before → ends_in_select KOther KOther before ≡ true
+only_a_select_does before e (d, i, (u, (n, x, h))) = takes KOther KOther before d u e i (subst (Selects KOther KOther) (append_assoc before (d ∷ []) u) (query_selects n n x ((before ++ d ∷ []) ++ u) h))

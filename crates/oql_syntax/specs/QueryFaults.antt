@@ -1,5 +1,5 @@
 -- Why a query is at fault, and where. L n x w says that the tokens w spell x with at most n links and levels.
-use Rattle.std.specs.Prelude.{◌≡◌, ℕ, ◌&&◌, not, Bool, true, false, List, [], ◌∷◌, length, Option, Some, None, codes}
+use Rattle.std.specs.Prelude.{◌≡◌, ℕ, ◌&&◌, not, Bool, true, false, List, [], ◌∷◌, ◌++◌, length, Option, Some, None, codes}
 use Rattle.kola_base.specs.Lexemes.{Lexeme, LWord}
 use Rattle.kola_base.specs.Tokens.{AreTokens, StopsAt}
 use Rattle.kola_base.specs.declared.lex.LexWhy.{LexWhy}
@@ -8,7 +8,7 @@ use Rattle.kola_base.specs.Placed.{Placed, placed, place}
 use Rattle.kola_base.specs.declared.sign.Sign.TheVariants as s
 use Rattle.kola_parse.specs.declared.why.Why.{Why}
 use Rattle.kola_parse.specs.declared.why.Why.TheVariants as why
-use Rattle.kola_parse.specs.Faults.{Accepted, Unlimited, IsFirstFault}
+use Rattle.kola_parse.specs.Faults.{Accepted, Unlimited, Begins, IsFirstFault}
 use Rattle.kola_parse.specs.Reader.{Fault}
 use Rattle.oql_syntax.specs.Alphabet.{Kind, KSign, KWord, KOther, kind}
 use Rattle.oql_syntax.specs.declared.word.QueryWord.TheVariants as q
@@ -38,6 +38,16 @@ abbrev pub ends_in_select : Kind → Kind → List Placed → Bool
 ends_in_select j k [] = false
 ends_in_select j k (t ∷ []) = is_select (kind t) && not (is_label_behind j k)
 ends_in_select j k (t ∷ u ∷ ts) = ends_in_select k (kind t) (u ∷ ts)
+
+-- the last of these tokens is the word `select`, a label or not
+abbrev pub last_is_select : List Placed → Bool
+last_is_select [] = false
+last_is_select (t ∷ []) = is_select (kind t)
+last_is_select (t ∷ u ∷ ts) = last_is_select (u ∷ ts)
+
+-- some text of U begins with these tokens and a `distinct` behind them
+abbrev pub DistinctMayFollow : (List Placed → Type 0) → List Placed → Type 0
+DistinctMayFollow U w = (d : Placed) × (kind d ≡ KWord q.Distinct) × Begins U (w ++ d ∷ [])
 
 abbrev pub left_out : Kind → Lexeme → Option (List ℕ)
 left_out (KWord q.LeftOut) (LWord bs) = Some bs

@@ -15,5 +15,4 @@ pub mod Unlabelled
 pub mod GrammarSelects
 pub mod GrammarWhole
 pub mod QueryFaultLaws
-pub mod QueryNames
 pub mod SelectLaws

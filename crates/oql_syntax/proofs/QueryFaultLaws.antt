@@ -1,6 +1,6 @@
 -- What reading all of a query answers: each text spells one query or has one first fault, with one cause.
-use Rattle.std.proofs.Common.{◌≡◌, ◌⊎◌, inl, inr, ℕ, suc, Bool, List, ◌++◌, length, Option, Some, None, Result, Ok, Err, refl, sym, ap, subst, ◌∙◌}
-use Rattle.std.proofs.lemmas.List.{append_cancel_right}
+use Rattle.std.proofs.Common.{◌≡◌, ◌⊎◌, inl, inr, ℕ, suc, Bool, List, [], ◌∷◌, ◌++◌, ◌-◌, length, take, IfOk, IfErr, arith, Option, Some, None, Result, Ok, Err, refl, sym, ap, subst, ◌∙◌}
+use Rattle.std.proofs.lemmas.List.{append_cancel_right, length-append}
 use Rattle.kola_base.specs.declared.lex.Token.{Token}
 use Rattle.kola_base.specs.declared.lex.LexWhy.{LexWhy}
 use Rattle.kola_base.specs.Tokens.{AreTokens, StopsAt}
@@ -9,15 +9,29 @@ use Rattle.kola_base.specs.Spelled.{Spells}
 use Rattle.kola_base.proofs.OneCut.{one_list, not_both}
 use Rattle.kola_base.proofs.OneCut as cuts
 use Rattle.kola_base.proofs.Total.{tokens_or_fault}
-use Rattle.kola_base.proofs.SpelledLaws.{is_found, no_tokens}
+use Rattle.kola_base.proofs.SpelledLaws.{is_found, no_tokens, one_spelled}
 use Rattle.kola_parse.specs.declared.why.Why.{Why}
 use Rattle.kola_parse.specs.declared.why.Why.TheVariants as why
+use Rattle.kola_parse.specs.declared.stop.Stop.{Stop}
+use Rattle.kola_parse.specs.declared.stop.Stop.TheVariants as stop
 use Rattle.kola_parse.specs.Faults.{Accepted, Unlimited, IsFirstFault}
+use Rattle.kola_parse.specs.Given.{Fails}
 use Rattle.kola_parse.specs.Reader.{Answer, Fault, fault, whole}
 use Rattle.kola_parse.specs.Reading.{Good}
 use Rattle.kola_parse.proofs.FaultLaws.{no_fault, one_fault}
 use Rattle.kola_parse.proofs.GoodReaders.{whole_fault}
-use Rattle.oql_syntax.specs.QueryFaults.{QueryCause, CLex, CUnexpected, CTooDeep, CNotInProfile, word_outside, cause_by, QueryFaultsAt, QuerySyntaxAt, FaultOfQuery}
+use Rattle.oql_syntax.specs.QueryFaults.{QueryCause, CLex, CUnexpected, CTooDeep, CNotInProfile, word_outside, cause_by, QueryFaultsAt, QuerySyntaxAt, FaultOfQuery, Refusal, RMemory, RAt, IsRefusal, IsRead, IsRefused, before_rest, refusal_of}
+
+take_front : (u r : List Placed) → take (length u) (u ++ r) ≡ u
+take_front [] r = refl
+take_front (t ∷ u) r = ap (λ (z : List Placed). t ∷ z) (take_front u r)
+
+-- what stands before the rest, and the rest
+before_is : (ts u r : List Placed) → ts ≡ u ++ r → before_rest ts r ≡ u
+before_is ts u r e =
+    let size = ap length e ∙ length-append u r in
+    let count : length ts - length r ≡ length u = omega (arith, size) in
+    ap (λ (k : ℕ). take k ts) count ∙ ap (take (length u)) e ∙ take_front u r
 
 module _ {A : Type 0} (p : ℕ → List Placed → Answer Placed A) (L : ℕ → A → List Placed → Type 0) (K : A → Placed → Bool) (good : (n : ℕ) → Good (Unit {0}) (p n) (p (suc n)) (L n) (L (suc n)) K) (n : ℕ) (text : List ℕ) where
   -- the cause by what stands before the rest
@@ -93,3 +107,28 @@ module _ {A : Type 0} (p : ℕ → List Placed → Answer Placed A) (L : ℕ →
       by : ((toks : List Token) × AreTokens toks text) ⊎ ((at : ℕ) × (w : LexWhy) × StopsAt text at w) → ((x : A) × Spells (L n) text x) ⊎ ((at : ℕ) × (c : QueryCause) × FaultOfQuery L n text at c)
       by (inl (toks, are)) = seen toks are (whole (p n) (placed text toks)) refl
       by (inr (at, w, h)) = inr (at, CLex w, h)
+
+  -- ---- what is answered, from what is found and refused
+
+  -- where reading stops, what stands before the rest is what reading took
+  pub refusal_is : (toks : List Token) (l : List Placed) → AreTokens toks text → l ≡ placed text toks → (z : Stop (List Placed)) → Fails z (whole (p n) l) → IsRefusal L n text (refusal_of (length text) l z)
+  refusal_is toks l are i stop.Memory e = tt
+  refusal_is toks l are i (stop.Before y r) e =
+      let first = whole_fault p L K good n l (fault y r) e in
+      fault_at toks l (before_rest l r) (place (length text) r) y r are i e (first.split ∙ ap (λ (u : List Placed). u ++ r) (sym (before_is l first.before r first.split))) refl
+
+  pub answer_only : {X E : Type 0} (view : X → A) (refusal : E → Refusal) (r : Result X E) → IfOk r (λ y. Spells (L n) text (view y)) → IfErr r (λ e. IsRefusal L n text (refusal e)) → (x : A) → Spells (L n) text x → IsRead view refusal x r
+  answer_only view refusal (Ok y) h k x w = one_spelled p L K good n text (view y) x h w
+  answer_only view refusal (Err e) h k x w = by (refusal e) refl k
+    where
+      by : (z : Refusal) → refusal e ≡ z → IsRefusal L n text z → refusal e ≡ RMemory
+      by RMemory i g = i
+      by (RAt at c) i g = absurd (spelled_or_fault x at c w g)
+
+  pub answer_at : {X E : Type 0} (view : X → A) (refusal : E → Refusal) (r : Result X E) → IfOk r (λ y. Spells (L n) text (view y)) → IfErr r (λ e. IsRefusal L n text (refusal e)) → (at : ℕ) (c : QueryCause) → FaultOfQuery L n text at c → IsRefused refusal at c r
+  answer_at view refusal (Ok y) h k at c f = spelled_or_fault (view y) at c h f
+  answer_at view refusal (Err e) h k at c f = by (refusal e) refl k
+    where
+      by : (z : Refusal) → refusal e ≡ z → IsRefusal L n text z → (refusal e ≡ RMemory) ⊎ (refusal e ≡ RAt at c)
+      by RMemory i g = inl i
+      by (RAt b d) i g = let same = one_query_fault b at d c g f in inr (i ∙ ap (λ (z : ℕ). RAt z d) same.0 ∙ ap (RAt at) same.1)

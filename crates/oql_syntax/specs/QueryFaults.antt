@@ -1,5 +1,5 @@
 -- Why a query is at fault, and where. L n x w says that the tokens w spell x with at most n links and levels.
-use Rattle.std.specs.Prelude.{◌≡◌, ℕ, ◌&&◌, not, Bool, true, false, List, [], ◌∷◌, ◌++◌, length, Option, Some, None, codes}
+use Rattle.std.specs.Prelude.{◌≡◌, ◌⊎◌, ℕ, ◌-◌, ◌&&◌, not, Bool, true, false, List, [], ◌∷◌, ◌++◌, length, take, Option, Some, None, Result, Ok, Err, codes}
 use Rattle.kola_base.specs.Lexemes.{Lexeme, LWord}
 use Rattle.kola_base.specs.Tokens.{AreTokens, StopsAt}
 use Rattle.kola_base.specs.declared.lex.LexWhy.{LexWhy}
@@ -10,6 +10,8 @@ use Rattle.kola_parse.specs.declared.why.Why.{Why}
 use Rattle.kola_parse.specs.declared.why.Why.TheVariants as why
 use Rattle.kola_parse.specs.Faults.{Accepted, Unlimited, Begins, IsFirstFault}
 use Rattle.kola_parse.specs.Reader.{Fault}
+use Rattle.kola_parse.specs.declared.stop.Stop.{Stop}
+use Rattle.kola_parse.specs.declared.stop.Stop.TheVariants as stop
 use Rattle.oql_syntax.specs.Alphabet.{Kind, KSign, KWord, KOther, kind}
 use Rattle.oql_syntax.specs.declared.word.QueryWord.TheVariants as q
 
@@ -89,3 +91,34 @@ pub record QuerySyntaxAt {A : Type 0} (L : ℕ → A → List Placed → Type 0)
 abbrev pub FaultOfQuery : {A : Type 0} → (ℕ → A → List Placed → Type 0) → ℕ → List ℕ → ℕ → QueryCause → Type 0
 FaultOfQuery L n text at (CLex w) = StopsAt text at w
 FaultOfQuery L n text at c = QuerySyntaxAt L n text at c
+
+-- ---- answers
+
+-- what a reader of queries refuses
+pub data Refusal : Type 0 where
+  -- memory was wanted
+  RMemory : Refusal
+  RAt : (at : ℕ) (cause : QueryCause) → Refusal
+
+abbrev pub IsRefusal : {A : Type 0} → (ℕ → A → List Placed → Type 0) → ℕ → List ℕ → Refusal → Type 0
+IsRefusal L n text RMemory = Unit {0}
+IsRefusal L n text (RAt at c) = FaultOfQuery L n text at c
+
+-- what is answered, seen by view, is x, unless memory ran out
+abbrev pub IsRead : {A X E : Type 0} → (X → A) → (E → Refusal) → A → Result X E → Type 0
+IsRead view refusal x (Ok y) = view y ≡ x
+IsRead view refusal x (Err e) = refusal e ≡ RMemory
+
+-- what is answered is the fault, unless memory ran out
+abbrev pub IsRefused : {X E : Type 0} → (E → Refusal) → ℕ → QueryCause → Result X E → Type 0
+IsRefused refusal at c (Ok y) = ⊥
+IsRefused refusal at c (Err e) = (refusal e ≡ RMemory) ⊎ (refusal e ≡ RAt at c)
+
+-- what stands before the rest of a list
+abbrev pub before_rest : List Placed → List Placed → List Placed
+before_rest ts rest = take (length ts - length rest) ts
+
+-- the fault where reading these tokens stopped, in a text of so many bytes
+abbrev pub refusal_of : ℕ → List Placed → Stop (List Placed) → Refusal
+refusal_of end ts stop.Memory = RMemory
+refusal_of end ts (stop.Before y rest) = RAt (place end rest) (cause_by y (word_outside (before_rest ts rest) rest))

@@ -2,5 +2,7 @@
 #![tactic(auto)]
 
 mod query;
+mod word;
 
 pub use query::Sign;
+pub use word::QueryWord;

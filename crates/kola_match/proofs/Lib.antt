@@ -7,6 +7,7 @@ pub mod Occurring
 mod SubstitutionExamples
 mod HoldingExamples
 pub mod RuleTested
+mod RuleOkExamples
 pub mod NodeLaws
 pub mod PairLaws
 pub mod BindLaws

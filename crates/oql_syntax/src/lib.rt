@@ -3,4 +3,4 @@
 
 mod query;
 
-pub use query::Sign;
+pub use query::{BoxedExpr, Chain, Expr, Form, Labels, Lit, LitList, NamedExprs, Query, Ranges, SetChain, Sign, StructList};

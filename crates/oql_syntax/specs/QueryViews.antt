@@ -18,11 +18,11 @@ lit_tree (lit.Bool b) = LitBool b
 abbrev pub literal_entry : Lit × ℕ → LitTree × ℕ
 literal_entry l = (lit_tree l.0, l.1)
 
-abbrev where_of : Option (ℕ × QueryTree) → QueryWhere
+abbrev pub where_of : Option (ℕ × QueryTree) → QueryWhere
 where_of None = NoWhere
 where_of (Some w) = Where w.0 w.1
 
-abbrev form_tree : ℕ → Form → QueryTree
+abbrev pub form_tree : ℕ → Form → QueryTree
 form_tree at (form.Name n) = QName at n
 form_tree at (form.Literal l) = QLiteral at (lit_tree l)
 form_tree at (form.SetOf ls) = QSetOf at (map literal_entry ls)

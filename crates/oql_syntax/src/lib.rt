@@ -3,4 +3,7 @@
 
 mod query;
 
-pub use query::{BoxedExpr, Chain, Expr, Form, Labels, Lit, LitList, NamedExprs, Query, Ranges, SetChain, Sign, StructList};
+pub use query::{
+    BoxedExpr, Chain, Expr, Form, Labels, Lit, LitList, NamedExprs, Query, Ranges, SetChain, Sign,
+    StructList,
+};

@@ -209,3 +209,260 @@ impl Model for NamedExprs {
 
     ghost size_decreases = { λ a h. omega (arith, named_entries_le a.entries.items) };
 }
+
+impl BoxedExpr {
+    /// An expression in a box.
+    pub fn new(alloc: Global, e: Expr) -> Result<BoxedExpr, Memory>
+        ensures { IfOk result (λ b. b ≡ query_tree e) }
+    {
+        let inner = Box::new(alloc, e)?;
+        Ok(BoxedExpr { inner })
+    }
+
+    /// The expression in the box.
+    pub fn get(&self) -> &Expr
+        ensures { query_tree result.now ≡ self.now }
+    {
+        &self.inner
+    }
+
+    /// The expression, out of its box.
+    pub fn into_inner(self) -> Expr
+        ensures { query_tree result ≡ self }
+    {
+        Box::into_inner(self.inner)
+    }
+
+    /// A copy of the expression, in a box.
+    #[cycle(copy)]
+    pub fn copy(&self, alloc: Global) -> Result<BoxedExpr, Memory>
+        ensures { IfOk result (λ b. b ≡ self.now) }
+    {
+        let copied = self.get().copy(alloc)?;
+        BoxedExpr::new(alloc, copied)
+    }
+}
+
+impl Chain {
+    /// No operands.
+    pub fn new(alloc: Global) -> Chain
+        ensures { result ≡ [] }
+    {
+        Chain {
+            entries: Vec::new(alloc),
+        }
+    }
+
+    /// The operands in their order.
+    pub fn as_slice(&self) -> &[(usize, Expr)]
+        ensures { map link_entry result.now ≡ self.now }
+    {
+        self.entries.as_slice()
+    }
+
+    /// Adds an operand at the end. Where memory is wanted, the list stays as it was and the operand is dropped.
+    pub fn push(&mut self, at: usize, e: BoxedExpr) -> Result<(), Memory>
+        ensures ok { OnOk result (self.new ≡ self.old ++ (at, e) ∷ []) }
+        ensures err { OnErr result (self.new ≡ self.old) }
+    {
+        self.entries.push((at, e.into_inner()))?;
+        Ok(())
+    }
+
+    /// A copy of the list.
+    #[cycle(copy)]
+    pub fn copy(&self, alloc: Global) -> Result<Chain, Memory>
+        ensures { IfOk result (λ c. c ≡ self.now) }
+    {
+        let mut entries = Vec::new(alloc);
+        for (at, e) in &self.entries {
+            entries.push((*at, e.copy(alloc)?))?;
+        }
+        Ok(Chain { entries })
+    }
+}
+
+impl SetChain {
+    /// No operands.
+    pub fn new(alloc: Global) -> SetChain
+        ensures { result ≡ [] }
+    {
+        SetChain {
+            entries: Vec::new(alloc),
+        }
+    }
+
+    /// The operands in their order.
+    pub fn as_slice(&self) -> &[(usize, bool, Expr)]
+        ensures { map set_link_entry result.now ≡ self.now }
+    {
+        self.entries.as_slice()
+    }
+
+    /// Adds an operand at the end; `except` says which of the two words stands before it. Where memory is wanted, the list stays as it
+    /// was and the operand is dropped.
+    pub fn push(&mut self, at: usize, except: bool, e: BoxedExpr) -> Result<(), Memory>
+        ensures ok { OnOk result (self.new ≡ self.old ++ (at, except, e) ∷ []) }
+        ensures err { OnErr result (self.new ≡ self.old) }
+    {
+        self.entries.push((at, except, e.into_inner()))?;
+        Ok(())
+    }
+
+    /// A copy of the list.
+    #[cycle(copy)]
+    pub fn copy(&self, alloc: Global) -> Result<SetChain, Memory>
+        ensures { IfOk result (λ c. c ≡ self.now) }
+    {
+        let mut entries = Vec::new(alloc);
+        for (at, except, e) in &self.entries {
+            entries.push((*at, *except, e.copy(alloc)?))?;
+        }
+        Ok(SetChain { entries })
+    }
+}
+
+impl NamedExprs {
+    /// No expressions.
+    pub fn new(alloc: Global) -> NamedExprs
+        ensures { result ≡ [] }
+    {
+        NamedExprs {
+            entries: Vec::new(alloc),
+        }
+    }
+
+    /// The expressions with their names, in their order.
+    pub fn as_slice(&self) -> &[(Name, usize, Expr)]
+        ensures { map named_entry result.now ≡ self.now }
+    {
+        self.entries.as_slice()
+    }
+
+    /// Adds an expression at the end. Where memory is wanted, the list stays as it was and the expression is dropped.
+    pub fn push(&mut self, name: Name, at: usize, e: BoxedExpr) -> Result<(), Memory>
+        ensures ok { OnOk result (self.new ≡ self.old ++ (name, at, e) ∷ []) }
+        ensures err { OnErr result (self.new ≡ self.old) }
+    {
+        self.entries.push((name, at, e.into_inner()))?;
+        Ok(())
+    }
+
+    /// A copy of the list.
+    #[cycle(copy)]
+    pub fn copy(&self, alloc: Global) -> Result<NamedExprs, Memory>
+        ensures { IfOk result (λ c. c ≡ self.now) }
+    {
+        let mut entries = Vec::new(alloc);
+        for (name, at, e) in &self.entries {
+            entries.push((name.copy()?, *at, e.copy(alloc)?))?;
+        }
+        Ok(NamedExprs { entries })
+    }
+}
+
+impl Lit {
+    /// A literal equal to it.
+    pub fn copy(&self) -> Result<Lit, Memory>
+        ensures { IfOk result (λ l. l ≡ self.now) }
+    {
+        match self {
+            Lit::Int(n) => Ok(Lit::Int(*n)),
+            Lit::Str(text) => Ok(Lit::Str(text.copy()?)),
+            Lit::Bool(b) => Ok(Lit::Bool(*b)),
+        }
+    }
+}
+
+fn copy_literals(alloc: Global, literals: &LitList) -> Result<LitList, Memory>
+    ensures { IfOk result (λ ls. ls ≡ literals.now) }
+{
+    let mut entries = Vec::new(alloc);
+    for (literal, at) in literals.as_slice() {
+        entries.push((literal.copy()?, *at))?;
+    }
+    Ok(Items::from_vec(entries))
+}
+
+fn copy_labels(alloc: Global, labels: &Labels) -> Result<Labels, Memory>
+    ensures { IfOk result (λ ls. ls ≡ labels.now) }
+{
+    let mut entries = Vec::new(alloc);
+    for (label, at) in labels.as_slice() {
+        entries.push((label.copy()?, *at))?;
+    }
+    Ok(Items::from_vec(entries))
+}
+
+/// An expression of the form at the place.
+fn placed(at: usize, form: Form) -> Result<Expr, Memory>
+    ensures { IfOk result (λ e. e ≡ record { at = at; form = form }) }
+{
+    Ok(Expr { at, form })
+}
+
+#[cycle(copy)]
+fn copy_condition(
+    alloc: Global,
+    condition: &Option<(usize, BoxedExpr)>,
+) -> Result<Option<(usize, BoxedExpr)>, Memory>
+    ensures { IfOk result (λ c. c ≡ condition.now) }
+{
+    match condition {
+        Some((at, e)) => Ok(Some((*at, e.copy(alloc)?))),
+        None => Ok(None),
+    }
+}
+
+impl Expr {
+    /// A query equal to it.
+    #[cycle(copy)]
+    pub fn copy(&self, alloc: Global) -> Result<Expr, Memory>
+        ensures { IfOk result (λ e. query_tree e ≡ query_tree self.now) }
+    {
+        let at = self.at;
+        match &self.form {
+            Form::Name(name) => placed(at, Form::Name(name.copy()?)),
+            Form::Literal(literal) => placed(at, Form::Literal(literal.copy()?)),
+            Form::SetOf(literals) => placed(at, Form::SetOf(copy_literals(alloc, literals)?)),
+            Form::Path(e, labels) => placed(
+                at,
+                Form::Path(e.copy(alloc)?, copy_labels(alloc, labels)?),
+            ),
+            Form::Struct(fields) => placed(at, Form::Struct(fields.copy(alloc)?)),
+            Form::Flatten(e) => placed(at, Form::Flatten(e.copy(alloc)?)),
+            Form::SomeMember(e) => placed(at, Form::SomeMember(e.copy(alloc)?)),
+            Form::Not(e) => placed(at, Form::Not(e.copy(alloc)?)),
+            Form::Intersect(e, links) => placed(
+                at,
+                Form::Intersect(e.copy(alloc)?, links.copy(alloc)?),
+            ),
+            Form::And(e, links) => placed(at, Form::And(e.copy(alloc)?, links.copy(alloc)?)),
+            Form::Or(e, links) => placed(at, Form::Or(e.copy(alloc)?, links.copy(alloc)?)),
+            Form::UnionExcept(e, links) => placed(
+                at,
+                Form::UnionExcept(e.copy(alloc)?, links.copy(alloc)?),
+            ),
+            Form::Compare(sign, a, b) => placed(
+                at,
+                Form::Compare(*sign, a.copy(alloc)?, b.copy(alloc)?),
+            ),
+            Form::Exists(x, range, body) => placed(
+                at,
+                Form::Exists(x.copy()?, range.copy(alloc)?, body.copy(alloc)?),
+            ),
+            Form::ForAll(x, range, body) => placed(
+                at,
+                Form::ForAll(x.copy()?, range.copy(alloc)?, body.copy(alloc)?),
+            ),
+            Form::Select(head, ranges, condition) => placed(
+                at,
+                Form::Select(
+                    head.copy(alloc)?,
+                    ranges.copy(alloc)?,
+                    copy_condition(alloc, condition)?,
+                ),
+            ),
+        }
+    }
+}

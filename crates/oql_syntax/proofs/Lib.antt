@@ -1,1 +1,3 @@
 pub mod QueryLoops
+pub mod WordLengths
+mod QueryExamples

@@ -2,8 +2,10 @@
 #![tactic(auto)]
 
 mod query;
+mod word;
 
 pub use query::{
     BoxedExpr, Chain, Expr, Form, Labels, Lit, LitList, NamedExprs, Query, Ranges, SetChain, Sign,
     StructList,
 };
+pub use word::{QueryWord, words_of_queries_are_no_names};

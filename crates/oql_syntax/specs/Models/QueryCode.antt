@@ -1,5 +1,5 @@
 -- How a proof tells queries apart: a query as a tree of numbers, and back.
-use Rattle.std.specs.Prelude.{◌≡◌, ℕ, ℤ, pos, negsuc, Bool, true, false, List, [], ◌∷◌, refl}
+use Rattle.std.specs.Prelude.{◌≡◌, ℕ, pos, negsuc, Bool, true, false, List, [], ◌∷◌, refl}
 use Rattle.std.proofs.Common.{ap, zero, suc}
 use base.Stored.{Gv, gnil, gnum, gcons, Coded, coded_list, coded×, coded_ℕ, coded_bool}
 use Rattle.std.specs.Coded.{code_by}

@@ -1,6 +1,5 @@
 use Rattle.std.proofs.Common.{◌≡◌, ◌+◌, ◌*◌, map, take}
-use Rattle.std.specs.Prelude.{Option, Some, None, ℕ}
-use Rattle.oql_syntax.specs.QueryTrees.{QueryTree, of_links, of_set_links, of_fields, of_ranges}
+use Rattle.oql_syntax.specs.QueryTrees.{of_links, of_set_links, of_fields}
 use Rattle.oql_syntax.specs.QueryViews.{query_tree, link_entry, set_link_entry, named_entry, where_of}
 use Rattle.oql_syntax.specs.Models.Weights.{weight, links_weight, set_links_weight, fields_weight, where_weight}
 use Rattle.oql_syntax.proofs.query.+copy.Given as goal

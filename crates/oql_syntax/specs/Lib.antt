@@ -4,4 +4,5 @@ pub mod Models
 pub mod Alphabet
 pub mod WordLists
 pub mod Tails
+pub mod Looks
 pub mod QueryReaders

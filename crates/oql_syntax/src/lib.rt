@@ -1,6 +1,7 @@
 //! Queries: their trees, their grammar, the reader of their texts, and the printer.
 #![tactic(auto)]
 
+mod look;
 mod query;
 mod word;
 

@@ -1,3 +1,7 @@
 pub mod QueryLoops
 pub mod WordLengths
-mod QueryExamples
+pub mod QueryExamples
+pub mod QuerySymbols
+pub mod GoesOn
+pub mod LevelLaws
+pub mod RangeLaws

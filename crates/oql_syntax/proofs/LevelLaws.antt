@@ -13,7 +13,7 @@ use Rattle.kola_parse.specs.Reading.{Ends, never, Inhabited, Reads, Good}
 use Rattle.kola_parse.specs.Texts.{ends, Nothing, Chained, Made, Paired, Led, ChainText}
 use Rattle.kola_parse.proofs.GoodReaders.{done_good, next_good, then_good, eat_good, good_as, made_good, pair_good}
 use Rattle.kola_parse.proofs.Chains.{chained_good}
-use Rattle.kola_parse.proofs.ListedLaws.{ItemOr, IsTaken, listed_good}
+use Rattle.kola_parse.proofs.ListedLaws.{IsList, ItemOr, IsTaken, listed_good}
 use Rattle.oql_syntax.specs.Alphabet.{Kind, KSign, KWord, KName, KNumber, KString, kind}
 use Rattle.oql_syntax.specs.QueryTrees.{LitTree, LitInt, LitStr, LitBool, QueryTree, QName, QLiteral, QSetOf, QPath, QStruct, QFlatten, QSomeMember, QNot, QIntersect, QAnd, QOr, QUnionExcept, QCompare, QExists, QForAll, QSelect, QueryLinks, QueryWhere, NoWhere, Where}
 use Rattle.oql_syntax.specs.QueryReaders.{Reader, is_word, variable, literal, led, Tailed, RangesTailed, FieldParts, Level, closed, next_literal_move, next_literal, first_and, literals, set_in, struct_tree, struct_in, flatten_in, some_in, prim_move, prim, PathParts, no_labels, add_label, path_of, label_move, path_by, Operands, no_operands, add_operand, intersect_of, at_place, intersect_move, meet_by, meet_from, SetOperands, no_set_operands, add_set_operand, union_of, set_operand, union_move, sets_by, sets_from, sets, comparison_of, plain, compared, compared_with, comparison_by, comparison_move, cmp_from, with_body, quantified, exists_move, not_tree, opennot_move, opennot, OperandsTailed, first_operand, more_operands, joined, placed_operand, and_move, and_from, or_move, or_from, openand, openor_from, SelectParts, no_where, with_where, selected, where_move, select_rest, select, full_move, full}
@@ -124,6 +124,9 @@ next_literal_good On = good_as next_to next_from next_to next_from (eat_good (λ
 literals_taken : IsTaken CommaLiteral CloseText
 literals_taken = record { item = λ v h. h; last = λ h. h; text = sign_token s.Close ∷ []; is = (sign_is s.Close, tt) }
 
+pub literal_list : IsList next_literal
+literal_list = record { item = CommaLiteral; last = CloseText; reads = (next_literal_good ⊥).low; taken = literals_taken }
+
 abbrev pub Literals : Lang Placed (List (LitTree × ℕ))
 Literals = Made first_and (Paired Literal (λ _. Listed CommaLiteral CloseText))
 
@@ -149,8 +152,8 @@ pub path_good : {On : Type 0} {n m : ℕ} {p r : Reader QueryTree} {L M : Lang P
 path_good {On} {n} {m} {p} {r} {L} {M} le h =
     made_good path_of (λ x t. on_path (kind t))
     (chained_good On (λ (x : PathParts) t. label_move (kind t)) (λ (x : PathParts) t. label_move (kind t)) (λ (x : PathParts) t. PathLinks (kind t)) (λ (x : PathParts) t. PathLinks (kind t)) add_label
-      never (λ x t. on_path (kind t)) never (λ a l t. refl) (λ x t. dot_links On (kind t)) (made no_labels p) (made no_labels r) (Made no_labels L) (Made no_labels M) n m le
-      (made_good no_labels never h))
+    never (λ x t. on_path (kind t)) never (λ a l t. refl) (λ x t. dot_links On (kind t)) (made no_labels p) (made no_labels r) (Made no_labels L) (Made no_labels M) n m le
+    (made_good no_labels never h))
 
 -- ---- intersections
 
@@ -171,8 +174,8 @@ pub meet_by_good : {On : Type 0} {n m : ℕ} {a b p r : Reader QueryTree} {P R L
 meet_by_good {On} {n} {m} {a} {b} {p} {r} {P} {R} {L} {M} le operand h =
     made_good intersect_of (λ x t. on_meet (kind t))
     (chained_good On (λ (x : Operands) t. intersect_move a t.at (kind t)) (λ (x : Operands) t. intersect_move b t.at (kind t)) (λ (x : Operands) t. MeetLinks P t.at (kind t)) (λ (x : Operands) t. MeetLinks R t.at (kind t)) add_operand
-      (λ x t. on_path (kind t)) (λ x t. on_meet (kind t)) (λ l t. on_path (kind t)) (λ a l t. refl) (λ x t. meet_links operand t.at (kind t)) (made no_operands (path_by n p)) (made no_operands (path_by m r)) (Made no_operands (PathBy n L)) (Made no_operands (PathBy m M)) n m le
-      (made_good no_operands (λ x t. on_path (kind t)) (path_good le h)))
+    (λ x t. on_path (kind t)) (λ x t. on_meet (kind t)) (λ l t. on_path (kind t)) (λ a l t. refl) (λ x t. meet_links operand t.at (kind t)) (made no_operands (path_by n p)) (made no_operands (path_by m r)) (Made no_operands (PathBy n L)) (Made no_operands (PathBy m M)) n m le
+    (made_good no_operands (λ x t. on_path (kind t)) (path_good le h)))
 
 -- ---- unions
 
@@ -195,8 +198,8 @@ pub sets_by_good : {On : Type 0} {n m : ℕ} {a b p r : Reader QueryTree} {P R L
 sets_by_good {On} {n} {m} {a} {b} {p} {r} {P} {R} {L} {M} le operand h =
     made_good union_of goes_sets
     (chained_good On (λ (x : SetOperands) t. union_move a t.at (kind t)) (λ (x : SetOperands) t. union_move b t.at (kind t)) (λ (x : SetOperands) t. UnionLinks P t.at (kind t)) (λ (x : SetOperands) t. UnionLinks R t.at (kind t)) add_set_operand
-      (λ x t. on_meet (kind t)) (λ x t. on_sets (kind t)) (λ l t. on_meet (kind t)) (λ a l t. refl) (λ x t. union_links operand t.at (kind t)) (made no_set_operands p) (made no_set_operands r) (Made no_set_operands L) (Made no_set_operands M) n m le
-      (made_good no_set_operands (λ x t. on_meet (kind t)) h))
+    (λ x t. on_meet (kind t)) (λ x t. on_sets (kind t)) (λ l t. on_meet (kind t)) (λ a l t. refl) (λ x t. union_links operand t.at (kind t)) (made no_set_operands p) (made no_set_operands r) (Made no_set_operands L) (Made no_set_operands M) n m le
+    (made_good no_set_operands (λ x t. on_meet (kind t)) h))
 
 -- ---- first operands
 
@@ -318,9 +321,9 @@ pub cmp_good : {On : Type 0} {n m : ℕ} {o o' : Option Level} {l l' : Inner} {p
     → Good On (cmp_from n o p) (cmp_from m o' r) (CmpFrom n l L) (CmpFrom m l' M) goes_not
 cmp_good {On} {n} {m} {o} {o'} {l} {l'} {p} {r} {L} {M} le z h =
     chained_good On (λ (v : Tailed) t. comparison_move (sets n o) v.1 t.at (kind t)) (λ (v : Tailed) t. comparison_move (sets m o') v.1 t.at (kind t)) (λ (v : Tailed) t. ComparisonLinks (Sets n l) v.1 t.at (kind t)) (λ (v : Tailed) t. ComparisonLinks (Sets m l') v.1 t.at (kind t)) compared
-      (λ v t. on_side v.1 (kind t)) goes_not (λ l t. on_sets (kind t)) (λ a l t. refl) (λ v t. comparison_links (sets_good le z) v.1 t.at (kind t))
-      (made plain (sets_from n o p)) (made plain (sets_from m o' r)) (Made plain (SetsFrom n l L)) (Made plain (SetsFrom m l' M)) (suc n) (suc m) (λ on. let e = le on in omega (arith, e))
-      (made_good plain (λ v t. on_side v.1 (kind t)) (sets_from_good le z h))
+    (λ v t. on_side v.1 (kind t)) goes_not (λ l t. on_sets (kind t)) (λ a l t. refl) (λ v t. comparison_links (sets_good le z) v.1 t.at (kind t))
+    (made plain (sets_from n o p)) (made plain (sets_from m o' r)) (Made plain (SetsFrom n l L)) (Made plain (SetsFrom m l' M)) (suc n) (suc m) (λ on. let e = le on in omega (arith, e))
+    (made_good plain (λ v t. on_side v.1 (kind t)) (sets_from_good le z h))
 
 -- ---- where there is no first operand, there is nothing that begins with it
 
@@ -479,16 +482,16 @@ and_good : {On : Type 0} {n m : ℕ} {a c p r : Reader Tailed} {L M P R : Lang P
 and_good {On} {n} {m} {a} {c} {p} {r} {L} {M} {P} {R} le operand h =
     made_good (joined QAnd) goes_and
     (chained_good On (λ (x : OperandsTailed) t. and_move a x.2 t.at (kind t)) (λ (x : OperandsTailed) t. and_move c x.2 t.at (kind t)) (λ (x : OperandsTailed) t. AndLinks L x.2 t.at (kind t)) (λ (x : OperandsTailed) t. AndLinks M x.2 t.at (kind t)) more_operands
-      (λ x t. on_not x.2 (kind t)) (λ x t. on_and x.2 (kind t)) link_not (λ x l t. refl) (λ x t. and_links operand x.2 t.at (kind t)) (made first_operand p) (made first_operand r) (Made first_operand P) (Made first_operand R) n m le
-      (made_good first_operand (λ x t. on_not x.2 (kind t)) h))
+    (λ x t. on_not x.2 (kind t)) (λ x t. on_and x.2 (kind t)) link_not (λ x l t. refl) (λ x t. and_links operand x.2 t.at (kind t)) (made first_operand p) (made first_operand r) (Made first_operand P) (Made first_operand R) n m le
+    (made_good first_operand (λ x t. on_not x.2 (kind t)) h))
 
 or_good : {On : Type 0} {n m : ℕ} {a c p r : Reader Tailed} {L M P R : Lang Placed Tailed} → (On → n < m) → Good On a c L M goes_and → Good On p r P R goes_and
     → Good On (or_from n a p) (or_from m c r) (OrFrom n L P) (OrFrom m M R) goes_full
 or_good {On} {n} {m} {a} {c} {p} {r} {L} {M} {P} {R} le operand h =
     made_good (joined QOr) goes_full
     (chained_good On (λ (x : OperandsTailed) t. or_move a x.2 t.at (kind t)) (λ (x : OperandsTailed) t. or_move c x.2 t.at (kind t)) (λ (x : OperandsTailed) t. OrLinks L x.2 t.at (kind t)) (λ (x : OperandsTailed) t. OrLinks M x.2 t.at (kind t)) more_operands
-      (λ x t. on_and x.2 (kind t)) (λ x t. on_full x.2 (kind t)) link_and (λ x l t. refl) (λ x t. or_links operand x.2 t.at (kind t)) (made first_operand p) (made first_operand r) (Made first_operand P) (Made first_operand R) n m le
-      (made_good first_operand (λ x t. on_and x.2 (kind t)) h))
+    (λ x t. on_and x.2 (kind t)) (λ x t. on_full x.2 (kind t)) link_and (λ x l t. refl) (λ x t. or_links operand x.2 t.at (kind t)) (made first_operand p) (made first_operand r) (Made first_operand P) (Made first_operand R) n m le
+    (made_good first_operand (λ x t. on_and x.2 (kind t)) h))
 
 abbrev pub OpenAnd : ℕ → Bool → Inner → Lang Placed Tailed
 OpenAnd n b l = AndFrom n (OpenNot n b l) (OpenNot n b l)
@@ -535,10 +538,10 @@ select_rest_good : {On : Type 0} {n m : ℕ} {i j : Level} {L M : Texts} (b : Bo
 select_rest_good {On} {n} {m} {i} {j} {L} {M} b at e le h =
     made_good (selected at e) goes_full
     (chained_good On (λ (x : SelectParts) t. where_move (i.full b) x.1 x.2 t.at (kind t)) (λ (x : SelectParts) t. where_move (j.full b) x.1 x.2 t.at (kind t))
-      (λ (x : SelectParts) t. WhereLinks (L.full b) x.1 x.2 t.at (kind t)) (λ (x : SelectParts) t. WhereLinks (M.full b) x.1 x.2 t.at (kind t)) with_where
-      (λ x t. on_part x.1 x.2 (kind t)) (λ x t. on_full x.2 (kind t)) link_full (λ x l t. opened_same l.2 (kind t)) (λ x t. where_links (h.full b) x.1 x.2 t.at (kind t))
-      (made no_where (i.ranges b)) (made no_where (j.ranges b)) (Made no_where (L.ranges b)) (Made no_where (M.ranges b)) (suc n) (suc m) (λ on. let f = le on in omega (arith, f))
-      (made_good no_where (λ x t. on_part x.1 x.2 (kind t)) (h.ranges b)))
+    (λ (x : SelectParts) t. WhereLinks (L.full b) x.1 x.2 t.at (kind t)) (λ (x : SelectParts) t. WhereLinks (M.full b) x.1 x.2 t.at (kind t)) with_where
+    (λ x t. on_part x.1 x.2 (kind t)) (λ x t. on_full x.2 (kind t)) link_full (λ x l t. opened_same l.2 (kind t)) (λ x t. where_links (h.full b) x.1 x.2 t.at (kind t))
+    (made no_where (i.ranges b)) (made no_where (j.ranges b)) (Made no_where (L.ranges b)) (Made no_where (M.ranges b)) (suc n) (suc m) (λ on. let f = le on in omega (arith, f))
+    (made_good no_where (λ x t. on_part x.1 x.2 (kind t)) (h.ranges b)))
 
 pub select_good : {On : Type 0} {n m : ℕ} {i j : Level} {L M : Texts} (b : Bool) (at : ℕ) → (On → n < m) → LevelGood On i j L M → Good On (select n i b at) (select m j b at) (Select n b at L) (Select m b at M) goes_full
 select_good b at le h = ahead_word q.Distinct refl (after_word q.From refl (λ v t e. ap (on_full v.1) e ∙ from_full v.1) (h.full false) (λ v. select_rest_good b at v.0 le h))

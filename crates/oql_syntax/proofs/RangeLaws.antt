@@ -65,18 +65,18 @@ union_stray p at _ e = refl
 sets_stay : (n : ℕ) (o : Option Level) (a : QueryTree) (t : Placed) (ts : List Placed) → on_sets (kind t) ≡ false → sets_from n o (done a) (t ∷ ts) ≡ Ok (a, t ∷ ts)
 sets_stay n o a t ts e =
     alone union_of no_set_operands (λ (x : SetOperands) t. union_move (meet_from n o (prim o)) t.at (kind t)) add_set_operand n (meet_from n o (done a)) a (t ∷ ts)
-      (alone intersect_of no_operands (λ (x : Operands) t. intersect_move (path_by n (prim o)) t.at (kind t)) add_operand n (path_by n (done a)) a (t ∷ ts)
-        (alone path_of no_labels (λ (x : PathParts) t. label_move (kind t)) add_label n (done a) a (t ∷ ts) refl (chain_stays (λ (x : PathParts) t. label_move (kind t)) add_label n (no_labels a) t ts (label_stray (kind t) e)))
-        (chain_stays (λ (x : Operands) t. intersect_move (path_by n (prim o)) t.at (kind t)) add_operand n (no_operands a) t ts (intersect_stray (path_by n (prim o)) t.at (kind t) e)))
-      (chain_stays (λ (x : SetOperands) t. union_move (meet_from n o (prim o)) t.at (kind t)) add_set_operand n (no_set_operands a) t ts (union_stray (meet_from n o (prim o)) t.at (kind t) e))
+    (alone intersect_of no_operands (λ (x : Operands) t. intersect_move (path_by n (prim o)) t.at (kind t)) add_operand n (path_by n (done a)) a (t ∷ ts)
+    (alone path_of no_labels (λ (x : PathParts) t. label_move (kind t)) add_label n (done a) a (t ∷ ts) refl (chain_stays (λ (x : PathParts) t. label_move (kind t)) add_label n (no_labels a) t ts (label_stray (kind t) e)))
+    (chain_stays (λ (x : Operands) t. intersect_move (path_by n (prim o)) t.at (kind t)) add_operand n (no_operands a) t ts (intersect_stray (path_by n (prim o)) t.at (kind t) e)))
+    (chain_stays (λ (x : SetOperands) t. union_move (meet_from n o (prim o)) t.at (kind t)) add_set_operand n (no_set_operands a) t ts (union_stray (meet_from n o (prim o)) t.at (kind t) e))
 
 sets_nil : (n : ℕ) (o : Option Level) (a : QueryTree) → sets_from n o (done a) [] ≡ Ok (a, [])
 sets_nil n o a =
     alone union_of no_set_operands (λ (x : SetOperands) t. union_move (meet_from n o (prim o)) t.at (kind t)) add_set_operand n (meet_from n o (done a)) a []
-      (alone intersect_of no_operands (λ (x : Operands) t. intersect_move (path_by n (prim o)) t.at (kind t)) add_operand n (path_by n (done a)) a []
-        (alone path_of no_labels (λ (x : PathParts) t. label_move (kind t)) add_label n (done a) a [] refl (chain_nil (λ (x : PathParts) t. label_move (kind t)) add_label n (no_labels a)))
-        (chain_nil (λ (x : Operands) t. intersect_move (path_by n (prim o)) t.at (kind t)) add_operand n (no_operands a)))
-      (chain_nil (λ (x : SetOperands) t. union_move (meet_from n o (prim o)) t.at (kind t)) add_set_operand n (no_set_operands a))
+    (alone intersect_of no_operands (λ (x : Operands) t. intersect_move (path_by n (prim o)) t.at (kind t)) add_operand n (path_by n (done a)) a []
+    (alone path_of no_labels (λ (x : PathParts) t. label_move (kind t)) add_label n (done a) a [] refl (chain_nil (λ (x : PathParts) t. label_move (kind t)) add_label n (no_labels a)))
+    (chain_nil (λ (x : Operands) t. intersect_move (path_by n (prim o)) t.at (kind t)) add_operand n (no_operands a)))
+    (chain_nil (λ (x : SetOperands) t. union_move (meet_from n o (prim o)) t.at (kind t)) add_set_operand n (no_set_operands a))
 
 abbrev as_variable : QueryTree → Reader RangeRead
 as_variable e = ahead (is_word q.As) (made (with_as e) variable)
@@ -132,7 +132,7 @@ RangeRest n l k at = AsFrom n l (PrimRest l k at)
 range_each : {On : Type 0} {n m : ℕ} {o o' : Option Level} {l l' : Inner} → (On → n < m) → Inside On o o' l l' → (k : Kind) (at : ℕ) → MoveGood On (range_move n o k at) (range_move m o' k at) (RangeRest n l k at) (RangeRest m l' k at) goes_range
 range_each {On} {n} {m} {o} {o'} {l} {l'} le z (KName x) at =
     other_apart_good (λ u. in_move n o (named x at) (kind u)) (λ u. in_move m o' (named x at) (kind u)) (λ u. InRest n l (named x at) (kind u)) (λ u. InRest m l' (named x at) (kind u)) (λ u. in_each le z (named x at) (kind u)) (as_good le z (done_good On (QName at x)))
-      (λ u. in_apart n o (named x at) (QName at x) u (kind u) refl) (as_needs n o (QName at x)) (λ u. in_apart m o' (named x at) (QName at x) u (kind u) refl) (as_needs m o' (QName at x))
+    (λ u. in_apart n o (named x at) (QName at x) u (kind u) refl) (as_needs n o (QName at x)) (λ u. in_apart m o' (named x at) (QName at x) u (kind u) refl) (as_needs m o' (QName at x))
 range_each {On} {n} {m} {o} {o'} {l} {l'} le z k at =
     led_good On (prim_move o k at) (prim_move o' k at) (PrimRest l k at) (PrimRest l' k at) never (as_from n o) (as_from m o') (AsFrom n l) (AsFrom m l') goes_range
     (λ Off f p r P R h. as_good (λ off. le (f off)) (inside_weaker f z) h) (no_as n l) (no_as m l') (prim_each z k at)
@@ -216,7 +216,7 @@ WholeNext n l x e = Either (λ u. OnlyLabel x (kind u)) (RangeFrom n l (Nothing 
 whole_good : {On : Type 0} {n m : ℕ} {o o' : Option Level} {l l' : Inner} → (On → n < m) → Inside On o o' l l' → (x : Named) (e : QueryTree) → Good On (whole_next n o x e) (whole_next m o' x e) (WholeNext n l x e) (WholeNext m l' x e) goes_next
 whole_good {On} {n} {m} {o} {o'} {l} {l'} le z x e =
     other_apart_good (λ u. only_label x (kind u)) (λ u. only_label x (kind u)) (λ u. OnlyLabel x (kind u)) (λ u. OnlyLabel x (kind u)) (λ u. only_each On x (kind u)) (range_from_good le z (done_good On e))
-      (λ u. only_apart n o x e u (kind u) refl) (next_needs n o e) (λ u. only_apart m o' x e u (kind u) refl) (next_needs m o' e)
+    (λ u. only_apart n o x e u (kind u) refl) (next_needs n o e) (λ u. only_apart m o' x e u (kind u) refl) (next_needs m o' e)
 
 -- behind a word with parentheses
 
@@ -266,7 +266,7 @@ WordNext n l x _ = Led (λ u. OnlyLabel x (kind u))
 word_next_good : {On : Type 0} {n m : ℕ} {o o' : Option Level} {l l' : Inner} → (On → n < m) → Inside On o o' l l' → (x : Named) (k : Kind) → Good On (word_next n o x k) (word_next m o' x k) (WordNext n l x k) (WordNext m l' x k) goes_next
 word_next_good {On} {n} {m} {o} {o'} {l} {l'} le z x (KName y) =
     other_apart_good (λ u. name_next n o x (kind u)) (λ u. name_next m o' x (kind u)) (λ u. NameNext n l x (kind u)) (λ u. NameNext m l' x (kind u)) (λ u. name_each le z x (kind u)) (range_from_good le z (done_good On (QName x.at y)))
-      (λ u. name_apart n o x (QName x.at y) u (kind u) refl) (next_needs n o (QName x.at y)) (λ u. name_apart m o' x (QName x.at y) u (kind u) refl) (next_needs m o' (QName x.at y))
+    (λ u. name_apart n o x (QName x.at y) u (kind u) refl) (next_needs n o (QName x.at y)) (λ u. name_apart m o' x (QName x.at y) u (kind u) refl) (next_needs m o' (QName x.at y))
 word_next_good le z x (KWord q.True) = whole_good le z x (QLiteral x.at (LitBool true))
 word_next_good le z x (KWord q.False) = whole_good le z x (QLiteral x.at (LitBool false))
 word_next_good {On} {n} {m} {o} {o'} {l} {l'} le z x (KWord q.Set) =
@@ -334,5 +334,5 @@ Ranges n l b = Chained (Made first_range (Range n l)) (λ x. ManyText (λ (x : R
 pub ranges_good : {On : Type 0} {n m : ℕ} {o o' : Option Level} {l l' : Inner} → (On → n < m) → Inside On o o' l l' → (b : Bool) → Good On (ranges n o b) (ranges m o' b) (Ranges n l b) (Ranges m l' b) goes_ranges
 ranges_good {On} {n} {m} {o} {o'} {l} {l'} le z b =
     manied_good On (λ (x : RangesTailed) t. comma_move (next n o b) x.1 (kind t)) (λ (x : RangesTailed) t. comma_move (next m o' b) x.1 (kind t)) (λ (x : RangesTailed) t. CommaLinks (NextText n l b) x.1 (kind t)) (λ (x : RangesTailed) t. CommaLinks (NextText m l' b) x.1 (kind t)) more_ranges
-      (λ x t. on_last x.1 (kind t)) goes_ranges goes_next (λ x c t. next_last x c (kind t)) (λ x t. comma_links (next_good le z b) x.1 (kind t))
-      (made first_range (range n o)) (made first_range (range m o')) (Made first_range (Range n l)) (Made first_range (Range m l')) (made_good first_range (λ x t. on_last x.1 (kind t)) (range_good le z))
+    (λ x t. on_last x.1 (kind t)) goes_ranges goes_next (λ x c t. next_last x c (kind t)) (λ x t. comma_links (next_good le z b) x.1 (kind t))
+    (made first_range (range n o)) (made first_range (range m o')) (Made first_range (Range n l)) (Made first_range (Range m l')) (made_good first_range (λ x t. on_last x.1 (kind t)) (range_good le z))

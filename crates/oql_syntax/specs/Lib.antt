@@ -6,3 +6,4 @@ pub mod WordLists
 pub mod Tails
 pub mod Looks
 pub mod QueryReaders
+pub mod QueryForms

@@ -18,6 +18,9 @@ lit_tree (lit.Bool b) = LitBool b
 abbrev pub literal_entry : Lit × ℕ → LitTree × ℕ
 literal_entry l = (lit_tree l.0, l.1)
 
+abbrev pub literal_entries : List (Lit × ℕ) → List (LitTree × ℕ)
+literal_entries ls = map literal_entry ls
+
 abbrev pub where_of : Option (ℕ × QueryTree) → QueryWhere
 where_of None = NoWhere
 where_of (Some w) = Where w.0 w.1

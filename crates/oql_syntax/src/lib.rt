@@ -2,6 +2,7 @@
 #![tactic(auto)]
 
 mod look;
+mod operand;
 mod query;
 mod word;
 

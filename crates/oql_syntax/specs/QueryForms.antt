@@ -1,0 +1,33 @@
+-- How first operands go on behind what begins them, and what the program's readers answer.
+use Rattle.std.specs.Prelude.{◌≡◌, false, ℕ, ◌+◌, List, Option}
+use Rattle.std.specs.Option.{option_map}
+use Rattle.kola_base.specs.declared.named.Named as named
+use Rattle.kola_base.specs.Named.{Named}
+use Rattle.kola_base.specs.NamedViews.{named_view}
+use Rattle.kola_base.specs.Placed.{Placed}
+use Rattle.kola_parse.specs.Reader.{done}
+use Rattle.oql_syntax.specs.QueryTrees.{QueryTree}
+use Rattle.oql_syntax.specs.QueryReaders.{Reader, Level, level, below, closed, struct_in, flatten_in, some_in}
+use Rattle.oql_syntax.specs.declared.operand.Parts.{Parts}
+use Rattle.oql_syntax.specs.declared.operand.Parts.TheVariants as parts
+use Rattle.oql_syntax.specs.declared.operand.Operand.{Operand}
+use Rattle.oql_syntax.specs.declared.operand.Operand.TheVariants as operand
+
+-- what is read in the parentheses, up to the closing one
+abbrev pub parts_of : Parts → Level → Reader QueryTree
+parts_of (parts.Struct at) i = struct_in i at
+parts_of (parts.Flatten at) i = flatten_in i at
+parts_of (parts.SomeMember at) i = some_in i at
+parts_of parts.Plain i = closed (i.full false)
+
+abbrev pub operand_rest : Operand → ℕ → Reader QueryTree
+operand_rest (operand.Whole e) n = done e
+operand_rest (operand.Parts p inner) n = parts_of p (level n (below n inner))
+
+-- the parts stand one level below
+abbrev pub IsOperandBelow : ℕ → Operand → Type 0
+IsOperandBelow levels (operand.Whole e) = Unit {0}
+IsOperandBelow levels (operand.Parts p inner) = inner + 1 ≡ levels
+
+abbrev pub some_label : Option (named.Named × List Placed) → Option (Named × List Placed)
+some_label o = option_map (λ x. (named_view x.0, x.1)) o

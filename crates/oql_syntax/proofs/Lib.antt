@@ -5,3 +5,5 @@ pub mod QuerySymbols
 pub mod GoesOn
 pub mod LevelLaws
 pub mod RangeLaws
+pub mod LinkLoops
+pub mod ReadingSteps

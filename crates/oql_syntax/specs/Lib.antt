@@ -7,3 +7,4 @@ pub mod Tails
 pub mod Looks
 pub mod QueryReaders
 pub mod QueryForms
+pub mod TailViews

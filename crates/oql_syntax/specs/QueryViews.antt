@@ -1,5 +1,5 @@
 -- The plain tree of a query that the program holds.
-use Rattle.std.specs.Prelude.{ℕ, Bool, List, Option, Some, None, map}
+use Rattle.std.specs.Prelude.{ℕ, Bool, List, [], ◌∷◌, Option, Some, None, map}
 use Rattle.std.specs.Borrow.{Bor}
 use Rattle.kola_core.specs.declared.name.Name.{Name}
 use Rattle.oql_syntax.specs.QueryTrees.{LitTree, LitInt, LitStr, LitBool, QueryTree, QName, QLiteral, QSetOf, QPath, QStruct, QFlatten, QSomeMember, QNot, QIntersect, QAnd, QOr, QUnionExcept, QCompare, QExists, QForAll, QSelect, QueryWhere, NoWhere, Where, of_links, of_set_links, of_fields, of_ranges}
@@ -66,3 +66,12 @@ set_link_entry_at l = set_link_entry l.now
 
 abbrev pub named_entry_at : Bor (Name × ℕ × Expr) → List ℕ × ℕ × QueryTree
 named_entry_at f = named_entry f.now
+
+-- where the first sign of a chain stands, if there is one
+abbrev pub first_place : List (ℕ × QueryTree) → Option ℕ
+first_place [] = None
+first_place (l ∷ ls) = Some l.0
+
+abbrev pub first_set_place : List (ℕ × Bool × QueryTree) → Option ℕ
+first_set_place [] = None
+first_set_place (l ∷ ls) = Some l.0

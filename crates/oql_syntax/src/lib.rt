@@ -1,9 +1,11 @@
 //! Queries: their trees, their grammar, the reader of their texts, and the printer.
 #![tactic(auto)]
 
+mod link;
 mod look;
 mod operand;
 mod query;
+mod reading;
 mod word;
 
 pub use query::{

@@ -7,12 +7,13 @@ ghost use Rattle.kola_parse.specs.Given.{Gives, GoesOn};
 ghost use Rattle.kola_parse.specs.Kinds.{ahead, deeper};
 ghost use Rattle.kola_parse.specs.Listed.{listed};
 ghost use Rattle.kola_base.specs.Alphabets.{sign};
+ghost use Rattle.kola_base.specs.NamedViews.{named_view};
 ghost use Rattle.kola_base.specs.AlphabetViews.{symbol_view};
 ghost use Rattle.kola_base.specs.declared.sign.Sign.TheVariants as signs;
 ghost use Rattle.oql_syntax.specs.Alphabet.{kind};
 ghost use Rattle.oql_syntax.specs.QueryTrees.{QueryTree};
 ghost use Rattle.oql_syntax.specs.QueryViews.{lit_tree, literal_entry, literal_entries, query_tree};
-ghost use Rattle.oql_syntax.specs.QueryReaders.{literal_of, literal, next_literal, literals, set_in, below, prim_move, label_move, add_label, path_tree, path_by, PathParts};
+ghost use Rattle.oql_syntax.specs.QueryReaders.{variable, literal_of, literal, next_literal, literals, set_in, below, prim_move, label_move, add_label, path_tree, path_by, PathParts};
 ghost use Rattle.oql_syntax.specs.QueryForms.{operand_rest, parts_of, IsOperandBelow, some_label};
 
 use crate::look::{Cursor, First, first_of};
@@ -209,6 +210,20 @@ pub(crate) fn operand_of<'a>(
         }
         _ => stray(first.tokens()),
     }
+}
+
+/// A name, which is no word of queries.
+pub(crate) fn variable_of<'a>(
+    tokens: Lexemes<'a>,
+) -> Result<(Named<'a>, Lexemes<'a>), Stop<Lexemes<'a>>>
+    ensures { Gives (λ x. (named_view x.0, x.1)) result (variable tokens.entry) }
+{
+    let first = first_of(tokens)?;
+    let at = first.at();
+    let Symbol::Name(name) = first.symbol() else {
+        return stray(first.tokens());
+    };
+    Ok((Named { name, at }, first.rest()))
 }
 
 // ---- paths

@@ -1,6 +1,6 @@
 //! The trees of queries.
 ghost use Rattle.std.specs.Prelude.{◌≡◌, [], ◌∷◌, ◌++◌, map, IfOk, OnOk, OnErr, length};
-ghost use Rattle.oql_syntax.specs.QueryViews.{query_tree, link_entry, set_link_entry, named_entry};
+ghost use Rattle.oql_syntax.specs.QueryViews.{query_tree, first_place, first_set_place, link_entry, set_link_entry, named_entry};
 
 use kola_core::{Items, Memory, Name, Text};
 use std::alloc::Global;
@@ -260,6 +260,14 @@ impl Chain {
         self.entries.as_slice()
     }
 
+    /// The place of the first sign, or `None` where there is no operand.
+    pub(crate) fn first_place(&self) -> Option<usize>
+        ensures { result ≡ first_place self.now }
+    {
+        let (at, _) = self.entries.first()?;
+        Some(*at)
+    }
+
     /// Adds an operand at the end. Where memory is wanted, the list stays as it was and the operand is dropped.
     pub fn push(&mut self, at: usize, e: BoxedExpr) -> Result<(), Memory>
         ensures ok { OnOk result (self.new ≡ self.old ++ (at, e) ∷ []) }
@@ -297,6 +305,14 @@ impl SetChain {
         ensures { map set_link_entry result.now ≡ self.now }
     {
         self.entries.as_slice()
+    }
+
+    /// The place of the first word, or `None` where there is no operand.
+    pub(crate) fn first_place(&self) -> Option<usize>
+        ensures { result ≡ first_set_place self.now }
+    {
+        let (at, _, _) = self.entries.first()?;
+        Some(*at)
     }
 
     /// Adds an operand at the end; `except` says which of the two words stands before it. Where memory is wanted, the list stays as it

@@ -1,0 +1,148 @@
+//! How expressions are joined, and how the text of one ended.
+
+ghost use Rattle.std.specs.Prelude.{◌≡◌, Option, IfOk, Some, None};
+ghost use Rattle.kola_base.specs.AlphabetViews.{symbol_view};
+ghost use Rattle.oql_syntax.specs.QueryTrees.{QExists, QForAll};
+ghost use Rattle.oql_syntax.specs.Tails.{opened};
+ghost use Rattle.oql_syntax.specs.QueryReaders.{chain_tree, union_tree, comparison_of};
+ghost use Rattle.oql_syntax.specs.TailViews.{tail_view, joint_form, quantifier_form};
+
+use crate::operand::boxed;
+use crate::query::{BoxedExpr, Chain, Form, SetChain, Sign};
+use crate::word::QueryWord;
+use kola_base::{Named, Sign as Mark, Symbol};
+use kola_core::{Memory, Name};
+use std::alloc::Global;
+
+/// How the text of an expression ended: what may go on it depends on this alone.
+#[derive(Clone, Copy)]
+pub(crate) enum Tail<'a> {
+    /// In a closed operand, to which a comparison may still come.
+    Plain,
+    /// In a comparison.
+    Compared,
+    /// The same in the body of a quantifier or in the condition of a select.
+    OpenPlain,
+    OpenCompared,
+    /// In the ranges of a select; true says that the last one is written with `as`.
+    Ranged(bool),
+    /// In the ranges of a select, a comma, and then the next label of the struct around it and its colon.
+    Labelled(Named<'a>),
+}
+
+/// The tail behind the body of a quantifier, or the condition of a select.
+pub(crate) fn opened<'a>(tail: Tail<'a>) -> Tail<'a>
+    ensures { tail_view result ≡ opened (tail_view tail.entry) }
+{
+    match tail {
+        Tail::Plain => Tail::OpenPlain,
+        Tail::Compared => Tail::OpenCompared,
+        _ => tail,
+    }
+}
+
+/// A chain of operands with one sign.
+#[derive(Clone, Copy)]
+pub(crate) enum Joint {
+    Intersect,
+    And,
+    Or,
+}
+
+/// The first operand with the others; where there is no other, the operand itself.
+pub(crate) fn linked(
+    alloc: Global,
+    by: Joint,
+    e: BoxedExpr,
+    links: Chain,
+) -> Result<BoxedExpr, Memory>
+    ensures { IfOk result (λ b. b ≡ chain_tree (joint_form by) e links) }
+{
+    match links.first_place() {
+        None => Ok(e),
+        Some(at) => match by {
+            Joint::Intersect => boxed(alloc, at, Form::Intersect(e, links)),
+            Joint::And => boxed(alloc, at, Form::And(e, links)),
+            Joint::Or => boxed(alloc, at, Form::Or(e, links)),
+        },
+    }
+}
+
+/// The same for `union` and `except`.
+pub(crate) fn set_linked(
+    alloc: Global,
+    e: BoxedExpr,
+    links: SetChain,
+) -> Result<BoxedExpr, Memory>
+    ensures { IfOk result (λ b. b ≡ union_tree e links) }
+{
+    match links.first_place() {
+        None => Ok(e),
+        Some(at) => boxed(alloc, at, Form::UnionExcept(e, links)),
+    }
+}
+
+/// A quantifier: `for all` where `each`, else `exists`, with the place of its first word and its variable.
+#[derive(Clone, Copy)]
+pub(crate) struct Quantifier<'a> {
+    pub each: bool,
+    pub at: usize,
+    pub name: &'a str,
+}
+
+impl<'a> Quantifier<'a> {
+    /// `exists`.
+    pub fn some(at: usize, name: &'a str) -> Quantifier<'a>
+        ensures { quantifier_form result ≡ QExists at name.now }
+    {
+        Quantifier {
+            each: false,
+            at,
+            name,
+        }
+    }
+
+    /// `for all`.
+    pub fn every(at: usize, name: &'a str) -> Quantifier<'a>
+        ensures { quantifier_form result ≡ QForAll at name.now }
+    {
+        Quantifier {
+            each: true,
+            at,
+            name,
+        }
+    }
+}
+
+/// The quantifier over the range, with the body.
+pub(crate) fn quantifier_of(
+    alloc: Global,
+    by: Quantifier<'_>,
+    range: BoxedExpr,
+    body: BoxedExpr,
+) -> Result<BoxedExpr, Memory>
+    ensures { IfOk result (λ b. b ≡ quantifier_form by.entry range body) }
+{
+    let name = Name::from_text(alloc, by.name)?;
+    if by.each {
+        boxed(alloc, by.at, Form::ForAll(name, range, body))
+    } else {
+        boxed(alloc, by.at, Form::Exists(name, range, body))
+    }
+}
+
+/// The sign of a comparison that a token is, if it is one.
+pub(crate) fn comparison_of(symbol: Symbol<'_, QueryWord>) -> Option<Sign>
+    ensures { result ≡ comparison_of (symbol_view symbol.entry) }
+{
+    match symbol {
+        Symbol::Sign(Mark::Equal) => Some(Sign::Eq),
+        Symbol::Sign(Mark::NotEqual) => Some(Sign::Ne),
+        Symbol::Sign(Mark::Less) => Some(Sign::Lt),
+        Symbol::Sign(Mark::LessEqual) => Some(Sign::Le),
+        Symbol::Sign(Mark::Greater) => Some(Sign::Gt),
+        Symbol::Sign(Mark::GreaterEqual) => Some(Sign::Ge),
+        Symbol::Word(QueryWord::In) => Some(Sign::Member),
+        _ => None,
+    }
+}

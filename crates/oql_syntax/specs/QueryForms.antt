@@ -1,5 +1,5 @@
 -- How first operands go on behind what begins them, and what the program's readers answer.
-use Rattle.std.specs.Prelude.{◌≡◌, false, ℕ, ◌+◌, List, Option}
+use Rattle.std.specs.Prelude.{◌≡◌, Bool, true, false, ℕ, ◌+◌, List, Option}
 use Rattle.std.specs.Option.{option_map}
 use Rattle.kola_base.specs.declared.named.Named as named
 use Rattle.kola_base.specs.Named.{Named}
@@ -8,6 +8,10 @@ use Rattle.kola_base.specs.Placed.{Placed}
 use Rattle.kola_parse.specs.Reader.{done}
 use Rattle.oql_syntax.specs.QueryTrees.{QueryTree}
 use Rattle.oql_syntax.specs.QueryReaders.{Reader, Level, level, below, closed, struct_in, flatten_in, some_in}
+use Rattle.oql_syntax.specs.Alphabet.{Kind, KWord}
+use Rattle.oql_syntax.specs.declared.word.QueryWord.TheVariants as q
+use Rattle.oql_syntax.specs.declared.link.Lead.{Lead}
+use Rattle.oql_syntax.specs.declared.link.Lead.TheVariants as leads
 use Rattle.oql_syntax.specs.declared.operand.Parts.{Parts}
 use Rattle.oql_syntax.specs.declared.operand.Parts.TheVariants as parts
 use Rattle.oql_syntax.specs.declared.operand.Operand.{Operand}
@@ -31,3 +35,14 @@ IsOperandBelow levels (operand.Parts p inner) = inner + 1 ≡ levels
 
 abbrev pub some_label : Option (named.Named × List Placed) → Option (Named × List Placed)
 some_label o = option_map (λ x. (named_view x.0, x.1)) o
+
+-- what an operand of `and` begins with
+abbrev pub lead : Kind → Lead
+lead (KWord q.Not) = leads.Not
+lead (KWord q.Exists) = leads.Exists
+lead (KWord q.For) = leads.All
+lead _ = leads.Other
+
+abbrev pub is_select : Kind → Bool
+is_select (KWord q.Select) = true
+is_select _ = false

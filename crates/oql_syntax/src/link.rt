@@ -5,6 +5,7 @@ ghost use Rattle.kola_base.specs.AlphabetViews.{symbol_view};
 ghost use Rattle.oql_syntax.specs.QueryTrees.{QExists, QForAll};
 ghost use Rattle.oql_syntax.specs.Tails.{opened};
 ghost use Rattle.oql_syntax.specs.QueryReaders.{chain_tree, union_tree, comparison_of};
+ghost use Rattle.oql_syntax.specs.QueryForms.{lead, is_select};
 ghost use Rattle.oql_syntax.specs.TailViews.{tail_view, joint_form, quantifier_form};
 
 use crate::operand::boxed;
@@ -79,6 +80,37 @@ pub(crate) fn set_linked(
     match links.first_place() {
         None => Ok(e),
         Some(at) => boxed(alloc, at, Form::UnionExcept(e, links)),
+    }
+}
+
+/// What an operand of `and` begins with.
+#[derive(Clone, Copy)]
+pub(crate) enum Lead {
+    Not,
+    Exists,
+    /// `for`
+    All,
+    /// A first operand.
+    Other,
+}
+
+pub(crate) fn lead_of(symbol: Symbol<'_, QueryWord>) -> Lead
+    ensures { result ≡ lead (symbol_view symbol.entry) }
+{
+    match symbol {
+        Symbol::Word(QueryWord::Not) => Lead::Not,
+        Symbol::Word(QueryWord::Exists) => Lead::Exists,
+        Symbol::Word(QueryWord::For) => Lead::All,
+        _ => Lead::Other,
+    }
+}
+
+pub(crate) fn is_select(symbol: Symbol<'_, QueryWord>) -> bool
+    ensures { result ≡ is_select (symbol_view symbol.entry) }
+{
+    match symbol {
+        Symbol::Word(QueryWord::Select) => true,
+        _ => false,
     }
 }
 

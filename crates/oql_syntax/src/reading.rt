@@ -11,7 +11,7 @@ ghost use Rattle.oql_syntax.specs.QueryReaders.{Operands, SetOperands, OperandsT
 ghost use Rattle.oql_syntax.specs.QueryForms.{parts_of};
 ghost use Rattle.oql_syntax.specs.TailViews.{tail_view, quantifier_form, some_link, some_set_link, some_comparison, some_tailed};
 
-use crate::link::{Joint, Quantifier, Tail, comparison_of, linked, opened, quantifier_of, set_linked};
+use crate::link::{Joint, Lead, Quantifier, Tail, comparison_of, is_select, lead_of, linked, opened, quantifier_of, set_linked};
 use crate::look::{Cursor, First, expect_word, first_of};
 use crate::operand::{Operand, Parts, boxed, operand_of, path_of, variable_of};
 use crate::query::{BoxedExpr, Chain, Form, SetChain, Sign, StructList};
@@ -391,22 +391,22 @@ fn opennot_of<'a>(
     ensures { Gives (λ x. ((x.0, tail_view x.1), x.2)) result (eat_at
         (opennot_move links field (below links levels) (kind first.now.0) first.now.0.at) first.now.0 first.now.1) }
 {
-    match first.symbol() {
-        Symbol::Word(QueryWord::Not) => {
+    match lead_of(first.symbol()) {
+        Lead::Not => {
             let inner = inner_of(levels, first.tokens())?;
             let (e, tail, rest) = opennot_at(alloc, first.rest(), links, inner, field)?;
             let e = boxed(alloc, first.at(), Form::Not(e))?;
             Ok((e, tail, rest))
         }
-        Symbol::Word(QueryWord::Exists) => {
+        Lead::Exists => {
             let inner = inner_of(levels, first.tokens())?;
             exists_of(alloc, first.at(), first.rest(), links, levels, inner, field)
         }
-        Symbol::Word(QueryWord::For) => {
+        Lead::All => {
             let inner = inner_of(levels, first.tokens())?;
             for_all_of(alloc, first.at(), first.rest(), links, inner, field)
         }
-        _ => {
+        Lead::Other => {
             let (e, rest) = prim_of(alloc, first, links, levels)?;
             cmp_of(alloc, e, rest, links, levels)
         }
@@ -615,7 +615,7 @@ pub(crate) fn full_at2<'a>(
         (full links field (below links levels) tokens.entry) }
 {
     let first = first_of(tokens)?;
-    if let Symbol::Word(QueryWord::Select) = first.symbol() {
+    if is_select(first.symbol()) {
         let inner = inner_of(levels, first.tokens())?;
         return select_of(alloc, first.at(), first.rest(), links, inner, field);
     }

@@ -131,3 +131,7 @@ select_is _ e = absurd cc
 pub no_select : (n : ℕ) (b : Bool) (o : Option Level) (at : ℕ) (k : Kind) → is_select k ≡ false → full_move n b o k at ≡ led (openor_from n b o) (opennot_move n b o k at)
 no_select n b o at (KWord q.Select) e = absurd cc
 no_select n b o at _ e = refl
+
+pub runs_stops : {A B : Type 0} {g : Reader A → Reader B} → Runs g → (p : Reader A) (ts : List Placed) (e : Stop (List Placed)) → Fails e (p ts) → Fails e (g p ts)
+runs_stops runs p ts Memory h = tt
+runs_stops runs p ts (Before y z) h = runs.fails p ts (fault y z) h

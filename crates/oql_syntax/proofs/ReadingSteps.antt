@@ -1,22 +1,23 @@
 -- What comes of a reader's parts, for the code that reads them one by one.
-use Rattle.std.proofs.Common.{◌≡◌, ℕ, zero, suc, ◌-◌, Bool, true, false, List, [], ◌∷◌, Option, Result, Ok, Err, Some, refl, sym, ap, ◌∙◌}
+use Rattle.std.proofs.Common.{◌≡◌, ℕ, zero, suc, ◌-◌, Bool, true, false, List, [], ◌∷◌, Option, Result, Ok, Err, Some, None, refl, sym, ap, ◌∙◌}
 use Rattle.kola_base.specs.Alphabets.{sign}
+use Rattle.kola_base.specs.Named.{Named}
 use Rattle.kola_base.specs.Placed.{Placed}
 use Rattle.kola_base.specs.declared.sign.Sign.TheVariants as s
 use Rattle.kola_parse.specs.declared.stop.Stop.{Stop}
 use Rattle.kola_parse.specs.declared.stop.Stop.TheVariants.{Memory, Before}
 use Rattle.kola_parse.specs.Given.{Fails, Gives}
 use Rattle.kola_parse.specs.Kinds.{expect, ahead, deeper}
-use Rattle.kola_parse.specs.Reader.{Fault, fault, Answer, ◌>>=◌, Move, Stray, Deep, Goes, eat, eat_at, then, done, chain, link_at}
+use Rattle.kola_parse.specs.Reader.{Fault, fault, Answer, ◌>>=◌, Move, Stray, Deep, Goes, eat, eat_at, other, other_at, then, done, chain, link_at}
 use Rattle.kola_parse.proofs.Loops.{chain_goes}
-use Rattle.oql_syntax.specs.Alphabet.{Kind, KWord, kind}
-use Rattle.oql_syntax.specs.QueryForms.{lead, is_select}
+use Rattle.oql_syntax.specs.Alphabet.{Kind, KWord, KName, kind}
+use Rattle.oql_syntax.specs.QueryForms.{lead, is_select, kind_name, behind_word, behind_in}
 use Rattle.oql_syntax.specs.declared.link.Lead.TheVariants as leads
-use Rattle.oql_syntax.specs.Tails.{Plain, Compared}
-use Rattle.oql_syntax.specs.QueryTrees.{QueryTree, QCompare}
+use Rattle.oql_syntax.specs.Tails.{Tail, Plain, Compared, opened}
+use Rattle.oql_syntax.specs.QueryTrees.{QueryTree, QCompare, NoWhere, Where}
 use Rattle.oql_syntax.specs.declared.query.Sign.{Sign}
 use Rattle.oql_syntax.specs.declared.word.QueryWord.TheVariants as q
-use Rattle.oql_syntax.specs.QueryReaders.{Reader, Level, Tailed, sets, sets_from, cmp_from, plain, is_word, comparison_move, comparison_by, comparison_of, compared, quantified, with_body, led, prim_move, opennot_move, full_move, or_from, openor_from, as_from, range_from}
+use Rattle.oql_syntax.specs.QueryReaders.{Reader, Level, Tailed, sets, sets_from, cmp_from, plain, is_word, comparison_move, comparison_by, comparison_of, compared, quantified, with_body, led, RangeParts, RangesTailed, SelectParts, no_where, with_where, where_move, select_rest, selected, RangeRead, in_move, range_move, prim_move, opennot_move, full_move, or_from, openor_from, as_from, range_from}
 
 -- behind a comparison there is no other
 compared_stays : (p : Reader QueryTree) (n : ℕ) (e : QueryTree) (ts : List Placed)
@@ -135,3 +136,38 @@ no_select n b o at _ e = refl
 pub runs_stops : {A B : Type 0} {g : Reader A → Reader B} → Runs g → (p : Reader A) (ts : List Placed) (e : Stop (List Placed)) → Fails e (p ts) → Fails e (g p ts)
 runs_stops runs p ts Memory h = tt
 runs_stops runs p ts (Before y z) h = runs.fails p ts (fault y z) h
+
+no_in_at : (n : ℕ) (o : Option Level) (x : Named) (p : Reader RangeRead) (t : Placed) (r : List Placed) (k : Kind) → behind_word k r ≡ None → other_at (in_move n o x k) p t r ≡ p (t ∷ r)
+no_in_at n o x p t r (KWord q.In) e = absurd cc
+no_in_at n o x p t r _ e = refl
+
+pub no_in : (n : ℕ) (o : Option Level) (x : Named) (p : Reader RangeRead) (ts : List Placed) → behind_in ts ≡ None → other (λ u. in_move n o x (kind u)) p ts ≡ p ts
+no_in n o x p [] e = refl
+no_in n o x p (t ∷ r) e = no_in_at n o x p t r (kind t) e
+
+pub name_is : (k : Kind) (x : List ℕ) → kind_name k ≡ Some x → k ≡ KName x
+name_is (KName y) x e = cc
+name_is _ x e = absurd cc
+
+pub no_name : (n : ℕ) (o : Option Level) (at : ℕ) (k : Kind) → kind_name k ≡ None → range_move n o k at ≡ led (as_from n o) (prim_move o k at)
+no_name n o at (KName x) e = absurd cc
+no_name n o at _ e = refl
+
+-- ---- the condition of a select: there is no other behind one
+
+abbrev where_chain : Reader Tailed → ℕ → SelectParts → Reader SelectParts
+where_chain p n x = chain (λ (x : SelectParts) t. where_move p x.1 x.2 t.at (kind t)) with_where n x
+
+where_stays : (p : Reader Tailed) (n : ℕ) (rs : List RangeParts) (at : ℕ) (e : QueryTree) (z : Tail) (ts : List Placed) → where_chain p n (rs, Where at e, z) ts ≡ Ok ((rs, Where at e, z), ts)
+where_stays p zero rs at e z [] = refl
+where_stays p zero rs at e z (t ∷ ts) = refl
+where_stays p (suc n) rs at e z [] = refl
+where_stays p (suc n) rs at e z (t ∷ ts) = refl
+
+pub select_ends : (n : ℕ) (i : Level) (b : Bool) (at : ℕ) (h : QueryTree) (ts r u : List Placed) (rs : List RangeParts) (z : Tail) (l : ℕ × QueryTree × Tail) → i.ranges b ts ≡ Ok ((rs, z), r)
+    → link_at (λ t. where_move (i.full b) NoWhere z t.at (kind t)) (suc n) r ≡ Ok (Some (l, u)) → select_rest n i b at h ts ≡ Ok (selected at h (with_where (rs, NoWhere, z) l), u)
+select_ends n i b at h ts r u rs z l e k =
+    ap (λ (y : Answer Placed RangesTailed). ((y >>= λ x. done (no_where x.0) x.1) >>= λ x. where_chain (i.full b) (suc n) x.0 x.1) >>= λ x. done (selected at h x.0) x.1) e
+    ∙ ap (λ (y : Answer Placed SelectParts). y >>= λ x. done (selected at h x.0) x.1)
+      (chain_goes (λ (x : SelectParts) t. where_move (i.full b) x.1 x.2 t.at (kind t)) with_where (suc n) (rs, NoWhere, z) r l u k
+       ∙ where_stays (i.full b) (suc n - 1) rs l.0 l.1 (opened l.2) u)

@@ -1,5 +1,6 @@
 -- How first operands go on behind what begins them, and what the program's readers answer.
-use Rattle.std.specs.Prelude.{◌≡◌, Bool, true, false, ℕ, ◌+◌, List, Option}
+use Rattle.std.specs.Prelude.{◌≡◌, Bool, true, false, ℕ, ◌+◌, List, [], ◌∷◌, Option, Some, None}
+use Rattle.std.specs.Borrow.{Bor}
 use Rattle.std.specs.Option.{option_map}
 use Rattle.kola_base.specs.declared.named.Named as named
 use Rattle.kola_base.specs.Named.{Named}
@@ -8,7 +9,7 @@ use Rattle.kola_base.specs.Placed.{Placed}
 use Rattle.kola_parse.specs.Reader.{done}
 use Rattle.oql_syntax.specs.QueryTrees.{QueryTree}
 use Rattle.oql_syntax.specs.QueryReaders.{Reader, Level, level, below, closed, struct_in, flatten_in, some_in}
-use Rattle.oql_syntax.specs.Alphabet.{Kind, KWord}
+use Rattle.oql_syntax.specs.Alphabet.{Kind, KWord, KName, kind}
 use Rattle.oql_syntax.specs.declared.word.QueryWord.TheVariants as q
 use Rattle.oql_syntax.specs.declared.link.Lead.{Lead}
 use Rattle.oql_syntax.specs.declared.link.Lead.TheVariants as leads
@@ -46,3 +47,20 @@ lead _ = leads.Other
 abbrev pub is_select : Kind → Bool
 is_select (KWord q.Select) = true
 is_select _ = false
+
+abbrev pub kind_name : Kind → Option (List ℕ)
+kind_name (KName x) = Some x
+kind_name _ = None
+
+-- what a reference points to
+abbrev pub now : Bor (List ℕ) → List ℕ
+now r = r.now
+
+abbrev pub behind_word : Kind → List Placed → Option (List Placed)
+behind_word (KWord q.In) r = Some r
+behind_word _ r = None
+
+-- what stands behind `in`, where that word comes first
+abbrev pub behind_in : List Placed → Option (List Placed)
+behind_in [] = None
+behind_in (t ∷ r) = behind_word (kind t) r

@@ -8,6 +8,8 @@ use Rattle.oql_syntax.specs.declared.query.Sign.{Sign}
 use Rattle.oql_syntax.specs.declared.link.Tail as tail
 use Rattle.oql_syntax.specs.declared.link.Tail.TheVariants as tails
 use Rattle.oql_syntax.specs.declared.link.Quantifier as quantifier
+use Rattle.oql_syntax.specs.declared.link.Range as range
+use Rattle.oql_syntax.specs.QueryReaders.{RangeRead}
 use Rattle.oql_syntax.specs.declared.link.Joint.{Joint}
 use Rattle.oql_syntax.specs.declared.link.Joint.TheVariants as joint
 
@@ -45,3 +47,6 @@ some_comparison o = option_map (λ x. ((x.0, x.1, x.2), x.3)) o
 
 abbrev pub some_tailed : Option (ℕ × QueryTree × tail.Tail × List Placed) → Option ((ℕ × QueryTree × Tail) × List Placed)
 some_tailed o = option_map (λ x. ((x.0, x.1, tail_view x.2), x.3)) o
+
+abbrev pub range_view : range.Range → RangeRead
+range_view r = (r.x.name.now, r.x.at, r.e, r.with_as)

@@ -1,17 +1,19 @@
 //! How expressions are joined, and how the text of one ended.
 
-ghost use Rattle.std.specs.Prelude.{◌≡◌, Option, IfOk, Some, None};
+ghost use Rattle.std.specs.Prelude.{◌≡◌, IfOk};
+ghost use Rattle.std.specs.Option.{option_map};
 ghost use Rattle.kola_base.specs.AlphabetViews.{symbol_view};
-ghost use Rattle.oql_syntax.specs.QueryTrees.{QExists, QForAll};
+ghost use Rattle.oql_syntax.specs.QueryTrees.{QName, QExists, QForAll};
 ghost use Rattle.oql_syntax.specs.Tails.{opened};
 ghost use Rattle.oql_syntax.specs.QueryReaders.{chain_tree, union_tree, comparison_of};
-ghost use Rattle.oql_syntax.specs.QueryForms.{lead, is_select};
+ghost use Rattle.oql_syntax.specs.QueryForms.{lead, is_select, kind_name, now, behind_in};
 ghost use Rattle.oql_syntax.specs.TailViews.{tail_view, joint_form, quantifier_form};
 
+use crate::look::Cursor;
 use crate::operand::boxed;
 use crate::query::{BoxedExpr, Chain, Form, SetChain, Sign};
 use crate::word::QueryWord;
-use kola_base::{Named, Sign as Mark, Symbol};
+use kola_base::{Lexemes, Named, Sign as Mark, Symbol};
 use kola_core::{Memory, Name};
 use std::alloc::Global;
 
@@ -175,6 +177,42 @@ pub(crate) fn comparison_of(symbol: Symbol<'_, QueryWord>) -> Option<Sign>
         Symbol::Sign(Mark::Greater) => Some(Sign::Gt),
         Symbol::Sign(Mark::GreaterEqual) => Some(Sign::Ge),
         Symbol::Word(QueryWord::In) => Some(Sign::Member),
+        _ => None,
+    }
+}
+
+/// A range of a select: its variable, what it ranges over, and whether it is written with `as`.
+#[derive(Drop)]
+pub(crate) struct Range<'a> {
+    pub x: Named<'a>,
+    pub e: BoxedExpr,
+    pub with_as: bool,
+}
+
+/// The name that a token is, which is no word of queries.
+pub(crate) fn name_in<'a>(symbol: Symbol<'a, QueryWord>) -> Option<&'a str>
+    ensures { option_map now result ≡ kind_name (symbol_view symbol.entry) }
+{
+    match symbol {
+        Symbol::Name(name) => Some(name),
+        _ => None,
+    }
+}
+
+/// The name as an expression.
+pub(crate) fn name_at(alloc: Global, x: Named<'_>) -> Result<BoxedExpr, Memory>
+    ensures { IfOk result (λ b. b ≡ QName x.entry.at x.entry.name.now) }
+{
+    boxed(alloc, x.at, Form::Name(Name::from_text(alloc, x.name)?))
+}
+
+/// What stands behind `in`, where that word comes first.
+pub(crate) fn behind_in<'a>(tokens: &Cursor<'a>) -> Option<Lexemes<'a>>
+    ensures { result ≡ behind_in tokens.now }
+{
+    let first = tokens.first()?;
+    match first.symbol() {
+        Symbol::Word(QueryWord::In) => Some(first.rest()),
         _ => None,
     }
 }

@@ -1,22 +1,23 @@
 //! Queries from tokens.
 
 ghost use Rattle.std.specs.Prelude.{◌≡◌, ◌<◌, [], IfOk, IsSome, true, false, suc};
-ghost use Rattle.kola_parse.specs.Reader.{eat, eat_at, chain, done, link_at, then};
+ghost use Rattle.kola_parse.specs.Reader.{eat, eat_at, chain, done, link_at, other, then};
 ghost use Rattle.kola_parse.specs.Kinds.{ahead};
 ghost use Rattle.kola_parse.specs.Given.{Gives};
 ghost use Rattle.oql_syntax.specs.Alphabet.{kind};
-ghost use Rattle.oql_syntax.specs.QueryTrees.{QForAll};
+ghost use Rattle.oql_syntax.specs.QueryTrees.{QName, QForAll, NoWhere};
+ghost use Rattle.kola_base.specs.NamedViews.{named_view};
 ghost use Rattle.oql_syntax.specs.declared.word.QueryWord.TheVariants as words;
-ghost use Rattle.oql_syntax.specs.QueryReaders.{Operands, SetOperands, OperandsTailed, level, below, is_word, variable, closed, prim_move, prim, path_by, intersect_move, add_operand, meet_from, union_move, add_set_operand, sets_from, sets, comparison_of, comparison_by, cmp_from, quantified, exists_move, opennot_move, opennot, and_move, and_from, openand, or_move, or_from, more_operands, select, fields, full};
+ghost use Rattle.oql_syntax.specs.QueryReaders.{Operands, SetOperands, OperandsTailed, level, below, is_word, variable, closed, prim_move, prim, path_by, intersect_move, add_operand, meet_from, union_move, add_set_operand, sets_from, sets, comparison_of, comparison_by, cmp_from, quantified, exists_move, opennot_move, opennot, and_move, and_from, openand, or_move, or_from, more_operands, where_move, select_rest, select, as_from, in_move, range_move, ranges, fields, full};
 ghost use Rattle.oql_syntax.specs.QueryForms.{parts_of};
-ghost use Rattle.oql_syntax.specs.TailViews.{tail_view, quantifier_form, some_link, some_set_link, some_comparison, some_tailed};
+ghost use Rattle.oql_syntax.specs.TailViews.{tail_view, range_view, quantifier_form, some_link, some_set_link, some_comparison, some_tailed};
 
-use crate::link::{Joint, Lead, Quantifier, Tail, comparison_of, is_select, lead_of, linked, opened, quantifier_of, set_linked};
+use crate::link::{Joint, Lead, Quantifier, Range, Tail, behind_in, comparison_of, is_select, lead_of, linked, name_at, name_in, opened, quantifier_of, set_linked};
 use crate::look::{Cursor, First, expect_word, first_of};
 use crate::operand::{Operand, Parts, boxed, operand_of, path_of, variable_of};
-use crate::query::{BoxedExpr, Chain, Form, SetChain, Sign, StructList};
+use crate::query::{BoxedExpr, Chain, Form, Ranges, SetChain, Sign, StructList};
 use crate::word::QueryWord;
-use kola_base::{Lexemes, Sign as Mark, Symbol, expect_sign};
+use kola_base::{Lexemes, Named, Sign as Mark, Symbol, expect_sign};
 use kola_parse::{Stop, Why, inner_of, stray};
 use std::alloc::Global;
 
@@ -624,6 +625,144 @@ pub(crate) fn full_at2<'a>(
     or_of(alloc, e, tail, rest, links, levels, field)
 }
 
+// ---- selects
+
+/// The condition behind ranges that ended so: the place of `where`, the condition, how it ended, and what stands behind it.
+fn where_of<'a>(
+    alloc: Global,
+    tail: Tail<'a>,
+    tokens: &Cursor<'a>,
+    links: usize,
+    levels: usize,
+    field: bool,
+) -> Result<Option<(usize, BoxedExpr, Tail<'a>, Cursor<'a>)>, Stop<Lexemes<'a>>>
+    ensures { Gives some_tailed result (link_at
+        (λ t. where_move (full links field (below links levels)) NoWhere (tail_view tail.entry) t.at (kind t))
+        (suc links) tokens.now) }
+{
+    let Tail::Ranged(_) = tail else {
+        return Ok(None);
+    };
+    let Some(first) = tokens.first() else {
+        return Ok(None);
+    };
+    let Symbol::Word(QueryWord::Where) = first.symbol() else {
+        return Ok(None);
+    };
+    let (e, tail, rest) = full_at(alloc, first.rest(), links, levels, field)?;
+    Ok(Some((first.at(), e, tail, rest)))
+}
+
+/// A select at the place, behind `from`.
+fn select_rest_of<'a>(
+    alloc: Global,
+    at: usize,
+    head: BoxedExpr,
+    tokens: Lexemes<'a>,
+    links: usize,
+    levels: usize,
+    field: bool,
+) -> Result<(BoxedExpr, Tail<'a>, Cursor<'a>), Stop<Lexemes<'a>>>
+    ensures { Gives (λ x. ((x.0, tail_view x.1), x.2)) result
+        (select_rest links (level links (below links levels)) field at head tokens.entry) }
+{
+    let (ranges, tail, rest) = ranges_of(alloc, tokens, links, levels, field)?;
+    match where_of(alloc, tail, &rest, links, levels, field)? {
+        Some((place, condition, ended, behind)) => {
+            let e = boxed(alloc, at, Form::Select(head, ranges, Some((place, condition))))?;
+            Ok((e, opened(ended), behind))
+        }
+        None => {
+            let e = boxed(alloc, at, Form::Select(head, ranges, None))?;
+            Ok((e, tail, rest))
+        }
+    }
+}
+
+/// A select at the place, behind its first word.
+fn select_of<'a>(
+    alloc: Global,
+    at: usize,
+    tokens: Lexemes<'a>,
+    links: usize,
+    levels: usize,
+    field: bool,
+) -> Result<(BoxedExpr, Tail<'a>, Cursor<'a>), Stop<Lexemes<'a>>>
+    ensures { Gives (λ x. ((x.0, tail_view x.1), x.2)) result
+        (select links (level links (below links levels)) field at tokens.entry) }
+{
+    let rest = expect_word(QueryWord::Distinct, tokens)?;
+    let (head, _, rest) = full_at(alloc, rest, links, levels, false)?;
+    let rest = expect_word(QueryWord::From, rest.tokens())?;
+    select_rest_of(alloc, at, head, rest, links, levels, field)
+}
+
+// ---- ranges
+
+/// A range with `as` from its first operand.
+fn as_of<'a>(
+    alloc: Global,
+    e: BoxedExpr,
+    tokens: Lexemes<'a>,
+    links: usize,
+    levels: usize,
+) -> Result<(Range<'a>, Cursor<'a>), Stop<Lexemes<'a>>>
+    ensures { Gives (λ x. (range_view x.0, x.1)) result (as_from links (below links levels) (done e) tokens.entry) }
+{
+    let (e, rest) = sets_of(alloc, e, tokens, links, levels)?;
+    let rest = expect_word(QueryWord::As, rest.tokens())?;
+    let (x, rest) = variable_of(rest)?;
+    let range = Range {
+        x,
+        e,
+        with_as: true,
+    };
+    Ok((range, Cursor::of(rest)))
+}
+
+/// A range behind its first word, a name.
+fn named_range_of<'a>(
+    alloc: Global,
+    x: Named<'a>,
+    tokens: Cursor<'a>,
+    links: usize,
+    levels: usize,
+) -> Result<(Range<'a>, Cursor<'a>), Stop<Lexemes<'a>>>
+    ensures { Gives (λ x. (range_view x.0, x.1)) result (other
+        (λ u. in_move links (below links levels) (named_view x.entry) (kind u))
+        (as_from links (below links levels) (done (QName x.entry.at x.entry.name.now))) tokens.entry) }
+{
+    if let Some(rest) = behind_in(&tokens) {
+        let (e, rest) = sets_at(alloc, rest, links, levels)?;
+        let range = Range {
+            x,
+            e,
+            with_as: false,
+        };
+        return Ok((range, rest));
+    }
+    let e = name_at(alloc, x)?;
+    as_of(alloc, e, tokens.tokens(), links, levels)
+}
+
+/// A range from its first token.
+fn range_of<'a>(
+    alloc: Global,
+    first: &First<'a>,
+    links: usize,
+    levels: usize,
+) -> Result<(Range<'a>, Cursor<'a>), Stop<Lexemes<'a>>>
+    ensures { Gives (λ x. (range_view x.0, x.1)) result (eat_at
+        (range_move links (below links levels) (kind first.now.0) first.now.0.at) first.now.0 first.now.1) }
+{
+    if let Some(name) = name_in(first.symbol()) {
+        let at = first.at();
+        return named_range_of(alloc, Named { name, at }, Cursor::of(first.rest()), links, levels);
+    }
+    let (e, rest) = prim_of(alloc, first, links, levels)?;
+    as_of(alloc, e, rest, links, levels)
+}
+
 // ---- stubs
 
 fn full_at<'a>(
@@ -650,16 +789,15 @@ fn fields_of<'a>(
     Err(Stop::Memory)
 }
 
-fn select_of<'a>(
+fn ranges_of<'a>(
     alloc: Global,
-    at: usize,
     tokens: Lexemes<'a>,
     links: usize,
     levels: usize,
     field: bool,
-) -> Result<(BoxedExpr, Tail<'a>, Cursor<'a>), Stop<Lexemes<'a>>>
+) -> Result<(Ranges, Tail<'a>, Cursor<'a>), Stop<Lexemes<'a>>>
     ensures { Gives (λ x. ((x.0, tail_view x.1), x.2)) result
-        (select links (level links (below links levels)) field at tokens.entry) }
+        (ranges links (below links levels) field tokens.entry) }
 {
     Err(Stop::Memory)
 }

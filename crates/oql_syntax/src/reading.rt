@@ -24,6 +24,7 @@ use std::alloc::Global;
 // ---- first operands
 
 /// An expression up to the parenthesis, and what stands behind it.
+#[cycle(queries)]
 fn closed_of<'a>(
     alloc: Global,
     tokens: Lexemes<'a>,
@@ -38,6 +39,7 @@ fn closed_of<'a>(
 }
 
 /// Parts in parentheses, up to the closing one.
+#[cycle(queries)]
 fn parts_at<'a>(
     alloc: Global,
     parts: Parts,
@@ -68,6 +70,7 @@ fn parts_at<'a>(
 }
 
 /// A first operand from its first token, and what stands behind it.
+#[cycle(queries)]
 fn prim_of<'a>(
     alloc: Global,
     first: &First<'a>,
@@ -85,6 +88,7 @@ fn prim_of<'a>(
 }
 
 /// A path.
+#[cycle(queries)]
 fn path_at<'a>(
     alloc: Global,
     tokens: Lexemes<'a>,
@@ -101,6 +105,7 @@ fn path_at<'a>(
 // ---- chains of sets
 
 /// The next operand of `intersect` with the place of the word and what stands behind it, where so many may come.
+#[cycle(queries)]
 fn next_intersect<'a>(
     alloc: Global,
     tokens: &Cursor<'a>,
@@ -126,6 +131,7 @@ fn next_intersect<'a>(
 }
 
 /// The operands of `intersect` behind the first one, `_e`.
+#[cycle(queries)]
 fn intersects_of<'a>(
     alloc: Global,
     _e: &BoxedExpr,
@@ -149,6 +155,7 @@ fn intersects_of<'a>(
 }
 
 /// A chain of `intersect` from its first operand.
+#[cycle(queries)]
 fn meet_of<'a>(
     alloc: Global,
     e: BoxedExpr,
@@ -165,6 +172,7 @@ fn meet_of<'a>(
 }
 
 /// A chain of `intersect`.
+#[cycle(queries)]
 fn meet_at<'a>(
     alloc: Global,
     tokens: Lexemes<'a>,
@@ -181,6 +189,7 @@ fn meet_at<'a>(
 
 /// The next operand of `union` or `except`, with the place of the word, which of them it is, and what stands behind the operand, where
 /// so many may come.
+#[cycle(queries)]
 fn next_union<'a>(
     alloc: Global,
     tokens: &Cursor<'a>,
@@ -209,6 +218,7 @@ fn next_union<'a>(
 }
 
 /// The operands of `union` and `except` behind the first one, `_e`.
+#[cycle(queries)]
 fn unions_of<'a>(
     alloc: Global,
     _e: &BoxedExpr,
@@ -233,6 +243,7 @@ fn unions_of<'a>(
 }
 
 /// Sets from their first operand.
+#[cycle(queries)]
 fn sets_of<'a>(
     alloc: Global,
     e: BoxedExpr,
@@ -249,6 +260,7 @@ fn sets_of<'a>(
 }
 
 /// Sets.
+#[cycle(queries)]
 fn sets_at<'a>(
     alloc: Global,
     tokens: Lexemes<'a>,
@@ -265,6 +277,7 @@ fn sets_at<'a>(
 // ---- comparisons
 
 /// The comparison that goes on sets: the place of its sign, the sign, the sets behind it, and what stands behind those.
+#[cycle(queries)]
 fn next_comparison<'a>(
     alloc: Global,
     tokens: &Cursor<'a>,
@@ -285,6 +298,7 @@ fn next_comparison<'a>(
 }
 
 /// Sets from their first operand, or two of them that are compared.
+#[cycle(queries)]
 fn cmp_of<'a>(
     alloc: Global,
     e: BoxedExpr,
@@ -308,6 +322,7 @@ fn cmp_of<'a>(
 // ---- quantifiers, not
 
 /// Behind the variable of a quantifier.
+#[cycle(queries)]
 fn quantified_of<'a>(
     alloc: Global,
     by: Quantifier<'a>,
@@ -328,6 +343,7 @@ fn quantified_of<'a>(
 }
 
 /// Behind `exists` at the place: a quantifier, or an expression in parentheses. The first is one level below.
+#[cycle(queries)]
 fn exists_of<'a>(
     alloc: Global,
     at: usize,
@@ -363,6 +379,7 @@ fn exists_of<'a>(
 }
 
 /// Behind `for` at the place.
+#[cycle(queries)]
 fn for_all_of<'a>(
     alloc: Global,
     at: usize,
@@ -434,6 +451,7 @@ fn opennot_at<'a>(
 
 /// The next operand of `and` behind an expression that ended so: the place of the word, the operand, how that ended, and what stands
 /// behind it, where so many may come.
+#[cycle(queries)]
 fn next_and<'a>(
     alloc: Global,
     tail: Tail<'a>,
@@ -465,6 +483,7 @@ fn next_and<'a>(
 }
 
 /// The operands of `and` behind the first one, `_e`, which ended so.
+#[cycle(queries)]
 fn ands_of<'a>(
     alloc: Global,
     _e: &BoxedExpr,
@@ -494,6 +513,7 @@ fn ands_of<'a>(
 }
 
 /// A chain of `and` from its first operand.
+#[cycle(queries)]
 fn and_of<'a>(
     alloc: Global,
     e: BoxedExpr,
@@ -512,6 +532,7 @@ fn and_of<'a>(
 }
 
 /// An operand of `or`.
+#[cycle(queries)]
 fn openand_at<'a>(
     alloc: Global,
     tokens: Lexemes<'a>,
@@ -527,6 +548,7 @@ fn openand_at<'a>(
 }
 
 /// The next operand of `or`, as `next_and` has those of `and`.
+#[cycle(queries)]
 fn next_or<'a>(
     alloc: Global,
     tail: Tail<'a>,
@@ -558,6 +580,7 @@ fn next_or<'a>(
 }
 
 /// The operands of `or` behind the first one, `_e`, which ended so.
+#[cycle(queries)]
 fn ors_of<'a>(
     alloc: Global,
     _e: &BoxedExpr,
@@ -587,6 +610,7 @@ fn ors_of<'a>(
 }
 
 /// A chain of `or` from its first operand.
+#[cycle(queries)]
 fn or_of<'a>(
     alloc: Global,
     e: BoxedExpr,
@@ -605,7 +629,8 @@ fn or_of<'a>(
 }
 
 /// An expression, or a select.
-pub(crate) fn full_at2<'a>(
+#[cycle(queries)]
+pub(crate) fn full_at<'a>(
     alloc: Global,
     tokens: Lexemes<'a>,
     links: usize,
@@ -628,6 +653,7 @@ pub(crate) fn full_at2<'a>(
 // ---- selects
 
 /// The condition behind ranges that ended so: the place of `where`, the condition, how it ended, and what stands behind it.
+#[cycle(queries)]
 fn where_of<'a>(
     alloc: Global,
     tail: Tail<'a>,
@@ -654,6 +680,7 @@ fn where_of<'a>(
 }
 
 /// A select at the place, behind `from`.
+#[cycle(queries)]
 fn select_rest_of<'a>(
     alloc: Global,
     at: usize,
@@ -680,6 +707,7 @@ fn select_rest_of<'a>(
 }
 
 /// A select at the place, behind its first word.
+#[cycle(queries)]
 fn select_of<'a>(
     alloc: Global,
     at: usize,
@@ -764,19 +792,6 @@ fn range_of<'a>(
 }
 
 // ---- stubs
-
-fn full_at<'a>(
-    alloc: Global,
-    tokens: Lexemes<'a>,
-    links: usize,
-    levels: usize,
-    field: bool,
-) -> Result<(BoxedExpr, Tail<'a>, Cursor<'a>), Stop<Lexemes<'a>>>
-    ensures { Gives (λ x. ((x.0, tail_view x.1), x.2)) result
-        (full links field (below links levels) tokens.entry) }
-{
-    Err(Stop::Memory)
-}
 
 fn fields_of<'a>(
     alloc: Global,

@@ -7,3 +7,4 @@ pub mod LevelLaws
 pub mod RangeLaws
 pub mod LinkLoops
 pub mod ReadingSteps
+pub mod NextSteps

@@ -6,13 +6,17 @@ use Rattle.kola_base.specs.declared.named.Named as named
 use Rattle.kola_base.specs.Named.{Named}
 use Rattle.kola_base.specs.NamedViews.{named_view}
 use Rattle.kola_base.specs.Placed.{Placed}
-use Rattle.kola_parse.specs.Reader.{done}
-use Rattle.oql_syntax.specs.QueryTrees.{QueryTree}
-use Rattle.oql_syntax.specs.QueryReaders.{Reader, Level, level, below, closed, struct_in, flatten_in, some_in}
-use Rattle.oql_syntax.specs.Alphabet.{Kind, KWord, KName, kind}
+use Rattle.kola_base.specs.declared.sign.Sign.TheVariants as s
+use Rattle.kola_parse.specs.Kinds.{deeper}
+use Rattle.kola_parse.specs.Reader.{Move, Stray, Goes, done, eat, made, other}
+use Rattle.oql_syntax.specs.QueryTrees.{QueryTree, LitBool, QName, QLiteral}
+use Rattle.oql_syntax.specs.QueryReaders.{Reader, Level, level, below, closed, set_in, struct_in, flatten_in, some_in, in_move, as_from, range_from, Next, ARange}
+use Rattle.oql_syntax.specs.Alphabet.{Kind, KSign, KWord, KName, kind}
 use Rattle.oql_syntax.specs.declared.word.QueryWord.TheVariants as q
 use Rattle.oql_syntax.specs.declared.link.Lead.{Lead}
 use Rattle.oql_syntax.specs.declared.link.Lead.TheVariants as leads
+use Rattle.oql_syntax.specs.declared.link.WordForm.{WordForm}
+use Rattle.oql_syntax.specs.declared.link.WordForm.TheVariants as forms
 use Rattle.oql_syntax.specs.declared.operand.Parts.{Parts}
 use Rattle.oql_syntax.specs.declared.operand.Parts.TheVariants as parts
 use Rattle.oql_syntax.specs.declared.operand.Operand.{Operand}
@@ -64,3 +68,42 @@ behind_word _ r = None
 abbrev pub behind_in : List Placed → Option (List Placed)
 behind_in [] = None
 behind_in (t ∷ r) = behind_word (kind t) r
+
+-- ---- behind a comma in a field of a struct
+
+abbrev pub behind_sign : Kind → List Placed → Option (List Placed)
+behind_sign (KSign s.Colon) r = Some r
+behind_sign _ r = None
+
+-- what stands behind a colon, where it comes first
+abbrev pub behind_colon : List Placed → Option (List Placed)
+behind_colon [] = None
+behind_colon (t ∷ r) = behind_sign (kind t) r
+
+abbrev pub word_form : Kind → WordForm
+word_form (KName x) = forms.Name
+word_form (KWord q.True) = forms.Truth true
+word_form (KWord q.False) = forms.Truth false
+word_form (KWord q.Set) = forms.Set
+word_form (KWord q.Struct) = forms.Struct
+word_form (KWord q.Flatten) = forms.Flatten
+word_form (KWord q.Exists) = forms.SomeMember
+word_form _ = forms.Other
+
+abbrev pub set_paren : ℕ → Option Level → ℕ → Kind → Move Placed Next
+set_paren n o at (KSign s.Open) = Goes (range_from n o (set_in at))
+set_paren n o at _ = Stray
+
+abbrev pub parts_paren : ℕ → Option Level → Parts → Kind → Move Placed Next
+parts_paren n o p (KSign s.Open) = deeper o (λ i. range_from n o (parts_of p i))
+parts_paren n o p _ = Stray
+
+-- a range that begins with the word l of the form, where no colon stands behind it
+abbrev pub word_range : ℕ → Option Level → Named → WordForm → Reader Next
+word_range n o l forms.Name = made ARange (other (λ u. in_move n o l (kind u)) (as_from n o (done (QName l.at l.name))))
+word_range n o l (forms.Truth b) = range_from n o (done (QLiteral l.at (LitBool b)))
+word_range n o l forms.Set = eat (λ u. set_paren n o l.at (kind u))
+word_range n o l forms.Struct = eat (λ u. parts_paren n o (parts.Struct l.at) (kind u))
+word_range n o l forms.Flatten = eat (λ u. parts_paren n o (parts.Flatten l.at) (kind u))
+word_range n o l forms.SomeMember = eat (λ u. parts_paren n o (parts.SomeMember l.at) (kind u))
+word_range n o l forms.Other = eat (λ u. Stray)

@@ -9,7 +9,10 @@ use Rattle.oql_syntax.specs.declared.link.Tail as tail
 use Rattle.oql_syntax.specs.declared.link.Tail.TheVariants as tails
 use Rattle.oql_syntax.specs.declared.link.Quantifier as quantifier
 use Rattle.oql_syntax.specs.declared.link.Range as range
-use Rattle.oql_syntax.specs.QueryReaders.{RangeRead}
+use Rattle.oql_syntax.specs.declared.link.Next as next
+use Rattle.oql_syntax.specs.declared.link.Next.TheVariants as nexts
+use Rattle.kola_base.specs.NamedViews.{named_view}
+use Rattle.oql_syntax.specs.QueryReaders.{RangeRead, Next, ARange, ALabel}
 use Rattle.oql_syntax.specs.declared.link.Joint.{Joint}
 use Rattle.oql_syntax.specs.declared.link.Joint.TheVariants as joint
 
@@ -50,3 +53,7 @@ some_tailed o = option_map (λ x. ((x.0, x.1, tail_view x.2), x.3)) o
 
 abbrev pub range_view : range.Range → RangeRead
 range_view r = (r.x.name.now, r.x.at, r.e, r.with_as)
+
+abbrev pub next_view : next.Next → Next
+next_view (nexts.Range r) = ARange (range_view r)
+next_view (nexts.Label l) = ALabel (named_view l)

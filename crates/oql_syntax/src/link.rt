@@ -6,7 +6,7 @@ ghost use Rattle.kola_base.specs.AlphabetViews.{symbol_view};
 ghost use Rattle.oql_syntax.specs.QueryTrees.{QName, QExists, QForAll};
 ghost use Rattle.oql_syntax.specs.Tails.{opened};
 ghost use Rattle.oql_syntax.specs.QueryReaders.{chain_tree, union_tree, comparison_of};
-ghost use Rattle.oql_syntax.specs.QueryForms.{lead, is_select, kind_name, now, behind_in};
+ghost use Rattle.oql_syntax.specs.QueryForms.{lead, is_select, kind_name, now, behind_in, behind_colon, word_form};
 ghost use Rattle.oql_syntax.specs.TailViews.{tail_view, joint_form, quantifier_form};
 
 use crate::look::Cursor;
@@ -214,5 +214,51 @@ pub(crate) fn behind_in<'a>(tokens: &Cursor<'a>) -> Option<Lexemes<'a>>
     match first.symbol() {
         Symbol::Word(QueryWord::In) => Some(first.rest()),
         _ => None,
+    }
+}
+
+/// What stands behind a comma in a field of a struct: another range, or the next label of the struct with its colon.
+#[derive(Drop)]
+pub(crate) enum Next<'a> {
+    Range(Range<'a>),
+    Label(Named<'a>),
+}
+
+/// What stands behind a colon, where it comes first.
+pub(crate) fn behind_colon<'a>(tokens: &Cursor<'a>) -> Option<Lexemes<'a>>
+    ensures { result ≡ behind_colon tokens.now }
+{
+    let first = tokens.first()?;
+    match first.symbol() {
+        Symbol::Sign(Mark::Colon) => Some(first.rest()),
+        _ => None,
+    }
+}
+
+/// What a word begins, where no colon stands behind it.
+#[derive(Clone, Copy)]
+pub(crate) enum WordForm {
+    Name,
+    Truth(bool),
+    Set,
+    Struct,
+    Flatten,
+    SomeMember,
+    /// Nothing.
+    Other,
+}
+
+pub(crate) fn word_form(symbol: Symbol<'_, QueryWord>) -> WordForm
+    ensures { result ≡ word_form (symbol_view symbol.entry) }
+{
+    match symbol {
+        Symbol::Name(_) => WordForm::Name,
+        Symbol::Word(QueryWord::True) => WordForm::Truth(true),
+        Symbol::Word(QueryWord::False) => WordForm::Truth(false),
+        Symbol::Word(QueryWord::Set) => WordForm::Set,
+        Symbol::Word(QueryWord::Struct) => WordForm::Struct,
+        Symbol::Word(QueryWord::Flatten) => WordForm::Flatten,
+        Symbol::Word(QueryWord::Exists) => WordForm::SomeMember,
+        _ => WordForm::Other,
     }
 }

@@ -5,13 +5,16 @@ ghost use Rattle.kola_parse.specs.declared.stop.Stop.TheVariants.{Before};
 ghost use Rattle.kola_parse.specs.declared.why.Why.TheVariants.{Unexpected};
 ghost use Rattle.kola_parse.specs.Kinds.{expect};
 ghost use Rattle.kola_parse.specs.Given.{Gives};
+ghost use Rattle.std.specs.Option.{option_map};
+ghost use Rattle.kola_base.specs.Named.{name_of};
+ghost use Rattle.kola_base.specs.NamedViews.{named_view};
 ghost use Rattle.kola_base.specs.AlphabetViews.{symbol_view};
 ghost use Rattle.oql_syntax.specs.Alphabet.{kind};
 ghost use Rattle.oql_syntax.specs.QueryReaders.{is_word};
 ghost use Rattle.oql_syntax.specs.Looks.{IsSeen};
 
 use crate::word::QueryWord;
-use kola_base::{Lexeme, Lexemes, Sign, Symbol, next_of, symbol_of};
+use kola_base::{Lexeme, Lexemes, Named, Sign, Symbol, next_of, symbol_of};
 use kola_parse::{Stop, stray};
 use std::marker::Model;
 
@@ -123,6 +126,14 @@ impl<'a> First<'a> {
                 None => Symbol::Number(0),
             },
         }
+    }
+
+    /// The word that the token is, as it is written, whatever word it is.
+    pub fn word(&self) -> Option<Named<'a>>
+        ensures { option_map named_view result ≡ name_of self.now.0 }
+    {
+        let (first, _) = self.tokens.split()?;
+        first.name()
     }
 
     /// Where the token begins, in bytes from 0.

@@ -111,7 +111,7 @@ fn literals_of<'a>(
 }
 
 /// What stands in the parentheses behind the word `set` at the place.
-fn set_of<'a>(
+pub(crate) fn set_of<'a>(
     alloc: Global,
     at: usize,
     tokens: Lexemes<'a>,

@@ -6,16 +6,17 @@ ghost use Rattle.kola_parse.specs.Kinds.{ahead};
 ghost use Rattle.kola_parse.specs.Given.{Gives};
 ghost use Rattle.oql_syntax.specs.Alphabet.{kind};
 ghost use Rattle.oql_syntax.specs.QueryTrees.{QName, QForAll, NoWhere};
+ghost use Rattle.kola_base.specs.Named.{name_of};
 ghost use Rattle.kola_base.specs.NamedViews.{named_view};
 ghost use Rattle.oql_syntax.specs.declared.word.QueryWord.TheVariants as words;
-ghost use Rattle.oql_syntax.specs.QueryReaders.{Operands, SetOperands, OperandsTailed, level, below, is_word, variable, closed, prim_move, prim, path_by, intersect_move, add_operand, meet_from, union_move, add_set_operand, sets_from, sets, comparison_of, comparison_by, cmp_from, quantified, exists_move, opennot_move, opennot, and_move, and_from, openand, or_move, or_from, more_operands, where_move, select_rest, select, as_from, in_move, range_move, ranges, fields, full};
-ghost use Rattle.oql_syntax.specs.QueryForms.{parts_of};
-ghost use Rattle.oql_syntax.specs.TailViews.{tail_view, range_view, quantifier_form, some_link, some_set_link, some_comparison, some_tailed};
+ghost use Rattle.oql_syntax.specs.QueryReaders.{Operands, SetOperands, OperandsTailed, level, below, is_word, variable, closed, prim_move, prim, path_by, intersect_move, add_operand, meet_from, union_move, add_set_operand, sets_from, sets, comparison_of, comparison_by, cmp_from, quantified, exists_move, opennot_move, opennot, and_move, and_from, openand, or_move, or_from, more_operands, where_move, select_rest, select, as_from, in_move, range_move, range_from, next_move, ranges, fields, full};
+ghost use Rattle.oql_syntax.specs.QueryForms.{parts_of, set_paren, parts_paren, word_range};
+ghost use Rattle.oql_syntax.specs.TailViews.{tail_view, range_view, next_view, quantifier_form, some_link, some_set_link, some_comparison, some_tailed};
 
-use crate::link::{Joint, Lead, Quantifier, Range, Tail, behind_in, comparison_of, is_select, lead_of, linked, name_at, name_in, opened, quantifier_of, set_linked};
+use crate::link::{Joint, Lead, Next, Quantifier, Range, Tail, WordForm, behind_colon, behind_in, comparison_of, is_select, lead_of, linked, name_at, name_in, opened, quantifier_of, set_linked, word_form};
 use crate::look::{Cursor, First, expect_word, first_of};
-use crate::operand::{Operand, Parts, boxed, operand_of, path_of, variable_of};
-use crate::query::{BoxedExpr, Chain, Form, Ranges, SetChain, Sign, StructList};
+use crate::operand::{Operand, Parts, boxed, operand_of, path_of, set_of, variable_of};
+use crate::query::{BoxedExpr, Chain, Form, Lit, Ranges, SetChain, Sign, StructList};
 use crate::word::QueryWord;
 use kola_base::{Lexemes, Named, Sign as Mark, Symbol, expect_sign};
 use kola_parse::{Stop, Why, inner_of, stray};
@@ -789,6 +790,119 @@ fn range_of<'a>(
     }
     let (e, rest) = prim_of(alloc, first, links, levels)?;
     as_of(alloc, e, rest, links, levels)
+}
+
+// ---- behind a comma in a field of a struct
+
+/// A range with `as` from its first operand, behind a comma.
+fn next_range_of<'a>(
+    alloc: Global,
+    e: BoxedExpr,
+    tokens: Lexemes<'a>,
+    links: usize,
+    levels: usize,
+) -> Result<(Next<'a>, Cursor<'a>), Stop<Lexemes<'a>>>
+    ensures { Gives (λ x. (next_view x.0, x.1)) result
+        (range_from links (below links levels) (done e) tokens.entry) }
+{
+    let (range, rest) = as_of(alloc, e, tokens, links, levels)?;
+    Ok((Next::Range(range), rest))
+}
+
+/// A range that begins with `set`, behind that word.
+fn next_set_of<'a>(
+    alloc: Global,
+    at: usize,
+    tokens: Lexemes<'a>,
+    links: usize,
+    levels: usize,
+) -> Result<(Next<'a>, Cursor<'a>), Stop<Lexemes<'a>>>
+    ensures { Gives (λ x. (next_view x.0, x.1)) result
+        (eat (λ u. set_paren links (below links levels) at (kind u)) tokens.entry) }
+{
+    let first = first_of(tokens)?;
+    let Symbol::Sign(Mark::Open) = first.symbol() else {
+        return stray(first.tokens());
+    };
+    let (e, rest) = set_of(alloc, at, first.rest())?;
+    next_range_of(alloc, e, rest, links, levels)
+}
+
+/// A range that begins with parts in parentheses, behind their word.
+fn next_parts_of<'a>(
+    alloc: Global,
+    parts: Parts,
+    tokens: Lexemes<'a>,
+    links: usize,
+    levels: usize,
+) -> Result<(Next<'a>, Cursor<'a>), Stop<Lexemes<'a>>>
+    ensures { Gives (λ x. (next_view x.0, x.1)) result
+        (eat (λ u. parts_paren links (below links levels) parts (kind u)) tokens.entry) }
+{
+    let first = first_of(tokens)?;
+    let Symbol::Sign(Mark::Open) = first.symbol() else {
+        return stray(first.tokens());
+    };
+    let inner = inner_of(levels, first.tokens())?;
+    let (e, rest) = parts_at(alloc, parts, first.rest(), links, inner)?;
+    next_range_of(alloc, e, rest, links, levels)
+}
+
+/// A range that begins with a word of the form, the label `l`, behind it.
+fn word_range_of<'a>(
+    alloc: Global,
+    l: Named<'a>,
+    form: WordForm,
+    tokens: Cursor<'a>,
+    links: usize,
+    levels: usize,
+) -> Result<(Next<'a>, Cursor<'a>), Stop<Lexemes<'a>>>
+    ensures { Gives (λ x. (next_view x.0, x.1)) result
+        (word_range links (below links levels) (named_view l.entry) form tokens.entry) }
+{
+    if let WordForm::Name = form {
+        let (range, rest) = named_range_of(alloc, l, tokens, links, levels)?;
+        return Ok((Next::Range(range), rest));
+    }
+    match form {
+        WordForm::Truth(b) => {
+            let e = boxed(alloc, l.at, Form::Literal(Lit::Bool(b)))?;
+            next_range_of(alloc, e, tokens.tokens(), links, levels)
+        }
+        WordForm::Set => next_set_of(alloc, l.at, tokens.tokens(), links, levels),
+        WordForm::Struct => {
+            next_parts_of(alloc, Parts::Struct(l.at), tokens.tokens(), links, levels)
+        }
+        WordForm::Flatten => {
+            next_parts_of(alloc, Parts::Flatten(l.at), tokens.tokens(), links, levels)
+        }
+        WordForm::SomeMember => {
+            next_parts_of(alloc, Parts::SomeMember(l.at), tokens.tokens(), links, levels)
+        }
+        WordForm::Name | WordForm::Other => return stray(tokens.tokens()),
+    }
+}
+
+/// What stands behind a comma in a field of a struct, from its first token.
+fn next_of<'a>(
+    alloc: Global,
+    first: &First<'a>,
+    links: usize,
+    levels: usize,
+) -> Result<(Next<'a>, Cursor<'a>), Stop<Lexemes<'a>>>
+    ensures { Gives (λ x. (next_view x.0, x.1)) result (eat_at
+        (next_move links (below links levels) (name_of first.now.0) (kind first.now.0) first.now.0.at) first.now.0
+        first.now.1) }
+{
+    let Some(l) = first.word() else {
+        let (e, rest) = prim_of(alloc, first, links, levels)?;
+        return next_range_of(alloc, e, rest, links, levels);
+    };
+    let rest = Cursor::of(first.rest());
+    if let Some(behind) = behind_colon(&rest) {
+        return Ok((Next::Label(l), Cursor::of(behind)));
+    }
+    word_range_of(alloc, l, word_form(first.symbol()), rest, links, levels)
 }
 
 // ---- stubs

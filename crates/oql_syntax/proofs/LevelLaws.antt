@@ -1,26 +1,26 @@
 -- The languages of one level, and that the readers of expressions read them.
-use Rattle.std.proofs.Common.{◌≡◌, ℕ, zero, suc, ◌<◌, Bool, true, false, List, [], ◌∷◌, ◌++◌, Option, Some, None, refl, sym, ap, subst, ◌∙◌, arith}
+use Rattle.std.proofs.Common.{◌≡◌, ℕ, suc, ◌<◌, Bool, true, false, List, [], ◌∷◌, Option, Some, None, refl, sym, ap, subst, ◌∙◌, arith}
 use Rattle.std.specs.Prelude.{is_some, ◌||◌}
 use Rattle.kola_base.specs.declared.sign.Sign.TheVariants as s
-use Rattle.kola_base.specs.Named.{Named, name_of, NameText, name_at}
+use Rattle.kola_base.specs.Named.{Named, NameText}
 use Rattle.kola_base.specs.Placed.{Placed}
 use Rattle.kola_base.proofs.NamedLaws.{name_good}
-use Rattle.kola_parse.specs.Kinds.{Lang, leads, ahead, deeper}
-use Rattle.kola_parse.specs.Listed.{Listed, listed}
+use Rattle.kola_parse.specs.Kinds.{Lang, leads, deeper}
+use Rattle.kola_parse.specs.Listed.{Listed}
 use Rattle.kola_parse.specs.Moves.{NoText, MoveGood, LinkGood}
-use Rattle.kola_parse.specs.Reader.{Answer, then, Move, Stray, Deep, Goes, eat, done, pair, made, chain}
+use Rattle.kola_parse.specs.Reader.{eat, made}
 use Rattle.kola_parse.specs.Reading.{Ends, never, Inhabited, Reads, Good}
 use Rattle.kola_parse.specs.Texts.{ends, Nothing, Chained, Made, Paired, Led, ChainText}
-use Rattle.kola_parse.proofs.GoodReaders.{done_good, next_good, then_good, eat_good, good_as, made_good, pair_good}
+use Rattle.kola_parse.proofs.GoodReaders.{done_good, next_good, eat_good, good_as, made_good, pair_good}
 use Rattle.kola_parse.proofs.Chains.{chained_good}
 use Rattle.kola_parse.proofs.ListedLaws.{IsList, ItemOr, IsTaken, listed_good}
 use Rattle.oql_syntax.specs.Alphabet.{Kind, KSign, KWord, KName, KNumber, KString, kind}
-use Rattle.oql_syntax.specs.QueryTrees.{LitTree, LitInt, LitStr, LitBool, QueryTree, QName, QLiteral, QSetOf, QPath, QStruct, QFlatten, QSomeMember, QNot, QIntersect, QAnd, QOr, QUnionExcept, QCompare, QExists, QForAll, QSelect, QueryLinks, QueryWhere, NoWhere, Where}
-use Rattle.oql_syntax.specs.QueryReaders.{Reader, is_word, variable, literal, led, Tailed, RangesTailed, FieldParts, Level, closed, next_literal_move, next_literal, first_and, literals, set_in, struct_tree, struct_in, flatten_in, some_in, prim_move, prim, PathParts, no_labels, add_label, path_of, label_move, path_by, Operands, no_operands, add_operand, intersect_of, at_place, intersect_move, meet_by, meet_from, SetOperands, no_set_operands, add_set_operand, union_of, set_operand, union_move, sets_by, sets_from, sets, comparison_of, plain, compared, compared_with, comparison_by, comparison_move, cmp_from, with_body, quantified, exists_move, not_tree, opennot_move, opennot, OperandsTailed, first_operand, more_operands, joined, placed_operand, and_move, and_from, or_move, or_from, openand, openor_from, SelectParts, no_where, with_where, selected, where_move, select_rest, select, full_move, full}
-use Rattle.oql_syntax.specs.Tails.{Tail, Plain, Compared, OpenPlain, OpenCompared, Ranged, Labelled, opened}
+use Rattle.oql_syntax.specs.QueryTrees.{LitTree, LitInt, LitStr, LitBool, QueryTree, QName, QLiteral, QSetOf, QFlatten, QSomeMember, QAnd, QOr, QExists, QForAll, QueryWhere, NoWhere, Where}
+use Rattle.oql_syntax.specs.QueryReaders.{Reader, Tailed, RangesTailed, FieldParts, Level, closed, next_literal_move, next_literal, first_and, literals, set_in, struct_tree, struct_in, flatten_in, some_in, prim_move, prim, PathParts, no_labels, add_label, path_of, label_move, path_by, Operands, no_operands, add_operand, intersect_of, at_place, intersect_move, meet_by, meet_from, SetOperands, no_set_operands, add_set_operand, union_of, set_operand, union_move, sets_by, sets_from, sets, comparison_of, plain, compared, compared_with, comparison_by, comparison_move, cmp_from, with_body, quantified, exists_move, not_tree, opennot_move, opennot, OperandsTailed, first_operand, more_operands, joined, placed_operand, and_move, and_from, or_move, or_from, openor_from, SelectParts, no_where, with_where, selected, where_move, select_rest, select, full_move, full}
+use Rattle.oql_syntax.specs.Tails.{Tail, Plain, Compared, OpenPlain, OpenCompared, Ranged, Labelled}
 use Rattle.oql_syntax.specs.declared.query.Sign.{Sign}
 use Rattle.oql_syntax.specs.declared.word.QueryWord.TheVariants as q
-use Rattle.oql_syntax.proofs.QuerySymbols.{sign_token, sign_is, word_token, Ahead, ahead_sign, ahead_word, after_sign, after_word, no_text, nothing, a_name, name_token, name_token_is, Variable, variable_good, Literal, literal_good, weaker, led_good}
+use Rattle.oql_syntax.proofs.QuerySymbols.{sign_token, sign_is, Ahead, ahead_sign, ahead_word, after_sign, after_word, no_text, nothing, name_token, name_token_is, Variable, variable_good, Literal, literal_good, weaker, led_good}
 use Rattle.oql_syntax.proofs.GoesOn.{on_path, on_meet, on_sets, on_full, on_and, on_not, on_side, on_ranges, on_part, ranges_by, opened_same, opened_not, comparison_clear, close_full, from_full}
 
 -- the languages of one level

@@ -1,5 +1,5 @@
 -- Reading queries, computed: trees of texts, and where texts are at fault. In these texts a blank stands between each two tokens.
-use Rattle.std.proofs.Common.{◌≡◌, ℕ, ◌+◌, pos, Bool, true, false, List, [], ◌∷◌, length, Result, Ok, Err, refl, codes, ◌==◌}
+use Rattle.std.proofs.Common.{◌≡◌, ℕ, ◌+◌, pos, Bool, true, false, List, [], ◌∷◌, length, Some, None, Result, Ok, Err, refl, codes, ◌==◌}
 use Rattle.std.specs.Prelude.{is_some}
 use Rattle.std.specs.List.{slice_split}
 use Rattle.std.specs.Str.{all_ascii_digits}
@@ -10,11 +10,16 @@ use Rattle.kola_base.specs.QueryWords.{is_among}
 use Rattle.kola_base.specs.Signs.{signs, sign_named}
 use Rattle.kola_parse.specs.declared.why.Why.{Why}
 use Rattle.kola_parse.specs.declared.why.Why.TheVariants.{Unexpected, TooDeep}
-use Rattle.kola_parse.specs.Reader.{Fault, whole}
+use Rattle.kola_parse.specs.Reader.{Fault, fault, whole}
+use Rattle.kola_parse.proofs.GoodReaders.{whole_sound, whole_complete}
 use Rattle.oql_syntax.specs.Alphabet.{query_words, query_word_named}
 use Rattle.oql_syntax.specs.QueryTrees.{LitInt, LitBool, QueryTree, QName, QLiteral, QSetOf, QPath, QStruct, QFlatten, QSomeMember, QNot, QIntersect, QAnd, QOr, QUnionExcept, QCompare, QExists, QForAll, QSelect, NoLinks, Link, NoSets, SetLink, NoFields, QField, NoRanges, QRange, NoWhere, Where}
 use Rattle.oql_syntax.specs.QueryReaders.{query}
+use Rattle.oql_syntax.specs.Grammar.{QueryText}
+use Rattle.oql_syntax.specs.QueryFaults.{CUnexpected, CTooDeep, CNotInProfile, word_outside, cause_by}
 use Rattle.oql_syntax.specs.declared.query.Sign.TheVariants as c
+use Rattle.oql_syntax.proofs.WholeQueryLaws.{always}
+use Rattle.oql_syntax.proofs.GrammarWhole.{grammar_good}
 
 -- what the bytes between two blanks say
 said : Bool → Bool → List ℕ → Lexeme
@@ -26,8 +31,11 @@ lexemes_from : ℕ → List (List ℕ) → List Placed
 lexemes_from at [] = []
 lexemes_from at (bs ∷ rest) = record { says = said (all_ascii_digits bs) (is_some (sign_named bs)) bs; at = at } ∷ lexemes_from (at + length bs + 1) rest
 
+text_at : ℕ → List ℕ → List Placed
+text_at at bs = lexemes_from at (slice_split (λ b. b == 32) bs)
+
 text : List ℕ → List Placed
-text bs = lexemes_from 0 (slice_split (λ b. b == 32) bs)
+text bs = text_at 0 bs
 
 -- what is read of a text with n links and n levels, or why and where it is at fault
 data Seen : Type 0 where
@@ -45,134 +53,217 @@ read n bs = seen (length bs) (whole (query n n) (text bs))
 
 -- words are read in any case
 a_select : read 3 (codes "SELECT distinct x . a from x in A , B as y where x = y ;") ≡ Tree (QSelect 0 (QPath 20 (QName 16 (codes "x")) ((codes "a", 20) ∷ [])) (QRange (codes "x") 27 (QName 32 (codes "A")) (QRange (codes "y") 41 (QName 36 (codes "B")) NoRanges)) (Where 43 (QCompare 51 c.Eq (QName 49 (codes "x")) (QName 53 (codes "y")))))
-unfolding read seen text lexemes_from said sign_named signs query_word_named query_words is_among
+unfolding read seen text text_at lexemes_from said sign_named signs query_word_named query_words is_among
 a_select = refl
 
 sets_group_to_the_left : read 3 (codes "a union b intersect c except d") ≡ Tree (QUnionExcept 2 (QName 0 (codes "a")) (SetLink 2 false (QIntersect 10 (QName 8 (codes "b")) (Link 10 (QName 20 (codes "c")) NoLinks)) (SetLink 22 true (QName 29 (codes "d")) NoSets)))
-unfolding read seen text lexemes_from said sign_named signs query_word_named query_words is_among
+unfolding read seen text text_at lexemes_from said sign_named signs query_word_named query_words is_among
 sets_group_to_the_left = refl
 
 and_binds_more_than_or : read 3 (codes "a or b and not c in d or e") ≡ Tree (QOr 2 (QName 0 (codes "a")) (Link 2 (QAnd 7 (QName 5 (codes "b")) (Link 7 (QNot 11 (QCompare 17 c.Member (QName 15 (codes "c")) (QName 20 (codes "d")))) NoLinks)) (Link 22 (QName 25 (codes "e")) NoLinks)))
-unfolding read seen text lexemes_from said sign_named signs query_word_named query_words is_among
+unfolding read seen text text_at lexemes_from said sign_named signs query_word_named query_words is_among
 and_binds_more_than_or = refl
 
 -- the body of a quantifier reaches as far right as possible
 a_quantifier : read 3 (codes "a and for all x in b : x < 1 or true") ≡ Tree (QAnd 2 (QName 0 (codes "a")) (Link 2 (QForAll 6 (codes "x") (QName 19 (codes "b")) (QOr 29 (QCompare 25 c.Lt (QName 23 (codes "x")) (QLiteral 27 (LitInt (pos 1)))) (Link 29 (QLiteral 32 (LitBool true)) NoLinks))) NoLinks))
-unfolding read seen text lexemes_from said sign_named signs query_word_named query_words is_among
+unfolding read seen text text_at lexemes_from said sign_named signs query_word_named query_words is_among
 a_quantifier = refl
 
 exists_of_both_kinds : read 3 (codes "exists ( a -> b . c ) and exists x in flatten ( d ) : x") ≡ Tree (QAnd 22 (QSomeMember 0 (QPath 14 (QName 9 (codes "a")) ((codes "b", 14) ∷ (codes "c", 18) ∷ []))) (Link 22 (QExists 26 (codes "x") (QFlatten 38 (QName 48 (codes "d"))) (QName 54 (codes "x"))) NoLinks))
-unfolding read seen text lexemes_from said sign_named signs query_word_named query_words is_among
+unfolding read seen text text_at lexemes_from said sign_named signs query_word_named query_words is_among
 exists_of_both_kinds = refl
 
 -- behind a bare select the comma is that of the struct, where the word behind it is followed by a colon
 a_select_in_a_struct : read 3 (codes "struct ( from : select distinct x from x in set ( 1 , false ) , first : 2 )") ≡ Tree (QStruct 0 (QField (codes "from") 9 (QSelect 16 (QName 32 (codes "x")) (QRange (codes "x") 39 (QSetOf 44 ((LitInt (pos 1), 50) ∷ (LitBool false, 54) ∷ [])) NoRanges) NoWhere) (QField (codes "first") 64 (QLiteral 72 (LitInt (pos 2))) NoFields)))
-unfolding read seen text lexemes_from said sign_named signs query_word_named query_words is_among
+unfolding read seen text text_at lexemes_from said sign_named signs query_word_named query_words is_among
 a_select_in_a_struct = refl
 
 a_struct_as_a_range : read 4 (codes "struct ( a : select distinct x from x in A , struct ( b : x ) as y , set : 2 )") ≡ Tree (QStruct 0 (QField (codes "a") 9 (QSelect 13 (QName 29 (codes "x")) (QRange (codes "x") 36 (QName 41 (codes "A")) (QRange (codes "y") 65 (QStruct 45 (QField (codes "b") 54 (QName 58 (codes "x")) NoFields)) NoRanges)) NoWhere) (QField (codes "set") 69 (QLiteral 75 (LitInt (pos 2))) NoFields)))
-unfolding read seen text lexemes_from said sign_named signs query_word_named query_words is_among
+unfolding read seen text text_at lexemes_from said sign_named signs query_word_named query_words is_among
 a_struct_as_a_range = refl
 
 a_select_as_a_body : read 3 (codes "exists x in A : select distinct y from y in B where y") ≡ Tree (QExists 0 (codes "x") (QName 12 (codes "A")) (QSelect 16 (QName 32 (codes "y")) (QRange (codes "y") 39 (QName 44 (codes "B")) NoRanges) (Where 46 (QName 52 (codes "y")))))
-unfolding read seen text lexemes_from said sign_named signs query_word_named query_words is_among
+unfolding read seen text text_at lexemes_from said sign_named signs query_word_named query_words is_among
 a_select_as_a_body = refl
+
+sign_Ne : read 3 (codes "a != b") ≡ Tree (QCompare 2 c.Ne (QName 0 (codes "a")) (QName 5 (codes "b")))
+unfolding read seen text text_at lexemes_from said sign_named signs query_word_named query_words is_among
+sign_Ne = refl
+
+sign_Le : read 3 (codes "a <= b") ≡ Tree (QCompare 2 c.Le (QName 0 (codes "a")) (QName 5 (codes "b")))
+unfolding read seen text text_at lexemes_from said sign_named signs query_word_named query_words is_among
+sign_Le = refl
+
+sign_Gt : read 3 (codes "a > b") ≡ Tree (QCompare 2 c.Gt (QName 0 (codes "a")) (QName 4 (codes "b")))
+unfolding read seen text text_at lexemes_from said sign_named signs query_word_named query_words is_among
+sign_Gt = refl
+
+sign_Ge : read 3 (codes "a >= b") ≡ Tree (QCompare 2 c.Ge (QName 0 (codes "a")) (QName 5 (codes "b")))
+unfolding read seen text text_at lexemes_from said sign_named signs query_word_named query_words is_among
+sign_Ge = refl
+
+in_a_set : read 3 (codes "( a ) in set ( 2 , FALSE )") ≡ Tree (QCompare 6 c.Member (QName 2 (codes "a")) (QSetOf 9 ((LitInt (pos 2), 15) ∷ (LitBool false, 19) ∷ [])))
+unfolding read seen text text_at lexemes_from said sign_named signs query_word_named query_words is_among
+in_a_set = refl
 
 -- ---- faults
 
 -- the end of a text is a token
 no_distinct : read 3 (codes "select") ≡ At 6 Unexpected
-unfolding read seen text lexemes_from said sign_named signs query_word_named query_words is_among
+unfolding read seen text text_at lexemes_from said sign_named signs query_word_named query_words is_among
 no_distinct = refl
 
 no_label_behind_a_comma : read 3 (codes "struct ( a : select distinct x from x in set ( 1 ) , first 2 )") ≡ At 59 Unexpected
-unfolding read seen text lexemes_from said sign_named signs query_word_named query_words is_among
+unfolding read seen text text_at lexemes_from said sign_named signs query_word_named query_words is_among
 no_label_behind_a_comma = refl
 
 -- a quantifier ends its chain
 and_behind_a_quantifier : read 3 (codes "exists x in A : select distinct y from y in B and true") ≡ At 46 Unexpected
-unfolding read seen text lexemes_from said sign_named signs query_word_named query_words is_among
+unfolding read seen text text_at lexemes_from said sign_named signs query_word_named query_words is_among
 and_behind_a_quantifier = refl
 
 or_behind_a_select_in_a_quantifier : read 3 (codes "a and exists x in A : select distinct y from B as y or c") ≡ At 52 Unexpected
-unfolding read seen text lexemes_from said sign_named signs query_word_named query_words is_among
+unfolding read seen text text_at lexemes_from said sign_named signs query_word_named query_words is_among
 or_behind_a_select_in_a_quantifier = refl
 
 -- select is a label there
 a_number_behind_a_label : read 3 (codes "x . select 5") ≡ At 11 Unexpected
-unfolding read seen text lexemes_from said sign_named signs query_word_named query_words is_among
+unfolding read seen text text_at lexemes_from said sign_named signs query_word_named query_words is_among
 a_number_behind_a_label = refl
 
 a_number_behind_a_field : read 3 (codes "struct ( select 5") ≡ At 16 Unexpected
-unfolding read seen text lexemes_from said sign_named signs query_word_named query_words is_among
+unfolding read seen text text_at lexemes_from said sign_named signs query_word_named query_words is_among
 a_number_behind_a_field = refl
 
 two_comparisons : read 3 (codes "a = b = c") ≡ At 6 Unexpected
-unfolding read seen text lexemes_from said sign_named signs query_word_named query_words is_among
+unfolding read seen text text_at lexemes_from said sign_named signs query_word_named query_words is_among
 two_comparisons = refl
 
 two_conditions : read 3 (codes "select distinct x from x in A where x where x") ≡ At 38 Unexpected
-unfolding read seen text lexemes_from said sign_named signs query_word_named query_words is_among
+unfolding read seen text text_at lexemes_from said sign_named signs query_word_named query_words is_among
 two_conditions = refl
 
 union_behind_a_variable : read 3 (codes "select distinct x from A as x union B") ≡ At 30 Unexpected
-unfolding read seen text lexemes_from said sign_named signs query_word_named query_words is_among
+unfolding read seen text text_at lexemes_from said sign_named signs query_word_named query_words is_among
 union_behind_a_variable = refl
 
 a_select_as_an_operand : read 3 (codes "a union select distinct x from x in A") ≡ At 8 Unexpected
-unfolding read seen text lexemes_from said sign_named signs query_word_named query_words is_among
+unfolding read seen text text_at lexemes_from said sign_named signs query_word_named query_words is_among
 a_select_as_an_operand = refl
 
 a_quantifier_as_a_side : read 3 (codes "a = exists x in A : x") ≡ At 11 Unexpected
-unfolding read seen text lexemes_from said sign_named signs query_word_named query_words is_among
+unfolding read seen text text_at lexemes_from said sign_named signs query_word_named query_words is_among
 a_quantifier_as_a_side = refl
 
 two_final_signs : read 3 (codes "a ; ;") ≡ At 4 Unexpected
-unfolding read seen text lexemes_from said sign_named signs query_word_named query_words is_among
+unfolding read seen text text_at lexemes_from said sign_named signs query_word_named query_words is_among
 two_final_signs = refl
 
 a_set_of_names : read 3 (codes "set ( 1 , a )") ≡ At 10 Unexpected
-unfolding read seen text lexemes_from said sign_named signs query_word_named query_words is_among
+unfolding read seen text text_at lexemes_from said sign_named signs query_word_named query_words is_among
 a_set_of_names = refl
 
 a_word_as_a_name : read 3 (codes "a union First") ≡ At 8 Unexpected
-unfolding read seen text lexemes_from said sign_named signs query_word_named query_words is_among
+unfolding read seen text text_at lexemes_from said sign_named signs query_word_named query_words is_among
 a_word_as_a_name = refl
 
 no_field_behind_a_bare_select : read 3 (codes "struct ( a : select distinct x from x in A , 2 : b )") ≡ At 47 Unexpected
-unfolding read seen text lexemes_from said sign_named signs query_word_named query_words is_among
+unfolding read seen text text_at lexemes_from said sign_named signs query_word_named query_words is_among
 no_field_behind_a_bare_select = refl
 
 a_level_too_many : read 1 (codes "not not a") ≡ At 4 TooDeep
-unfolding read seen text lexemes_from said sign_named signs query_word_named query_words is_among
+unfolding read seen text text_at lexemes_from said sign_named signs query_word_named query_words is_among
 a_level_too_many = refl
 
 a_level_in_parentheses : read 2 (codes "( not exists ( a ) )") ≡ At 6 TooDeep
-unfolding read seen text lexemes_from said sign_named signs query_word_named query_words is_among
+unfolding read seen text text_at lexemes_from said sign_named signs query_word_named query_words is_among
 a_level_in_parentheses = refl
 
 a_link_too_many : read 1 (codes "a union b except c") ≡ At 10 TooDeep
-unfolding read seen text lexemes_from said sign_named signs query_word_named query_words is_among
+unfolding read seen text text_at lexemes_from said sign_named signs query_word_named query_words is_among
 a_link_too_many = refl
 
 a_label_too_many : read 1 (codes "a . b . c") ≡ At 6 TooDeep
-unfolding read seen text lexemes_from said sign_named signs query_word_named query_words is_among
+unfolding read seen text text_at lexemes_from said sign_named signs query_word_named query_words is_among
 a_label_too_many = refl
 
 an_and_too_many : read 1 (codes "a and b or c and d and e") ≡ At 19 TooDeep
-unfolding read seen text lexemes_from said sign_named signs query_word_named query_words is_among
+unfolding read seen text text_at lexemes_from said sign_named signs query_word_named query_words is_among
 an_and_too_many = refl
 
 -- each chain has its own count
 chains_in_chains : read 1 (codes "a and b or c and d or e") ≡ At 19 TooDeep
-unfolding read seen text lexemes_from said sign_named signs query_word_named query_words is_among
+unfolding read seen text text_at lexemes_from said sign_named signs query_word_named query_words is_among
 chains_in_chains = refl
 
 -- it is too deep at the parenthesis, since the word may be a label
 a_struct_or_a_label : read 2 (codes "struct ( a : select distinct x from x in A , struct ( b : x ) as y )") ≡ At 52 TooDeep
-unfolding read seen text lexemes_from said sign_named signs query_word_named query_words is_among
+unfolding read seen text text_at lexemes_from said sign_named signs query_word_named query_words is_among
 a_struct_or_a_label = refl
 
 a_level_for_all : read 1 (codes "for all x in ( A ) : x") ≡ At 13 TooDeep
-unfolding read seen text lexemes_from said sign_named signs query_word_named query_words is_among
+unfolding read seen text text_at lexemes_from said sign_named signs query_word_named query_words is_among
 a_level_for_all = refl
+
+-- ---- words outside of the profile
+
+-- behind a select it is that word, also where another one is left out
+a_select_without_distinct : word_outside (text (codes "exists ( SELECT")) (text (codes "first")) ≡ Some (codes "select")
+unfolding text text_at lexemes_from said sign_named signs query_word_named query_words is_among
+a_select_without_distinct = refl
+
+a_select_at_the_end : word_outside (text (codes "a union ( select")) ([]) ≡ Some (codes "select")
+unfolding text text_at lexemes_from said sign_named signs query_word_named query_words is_among
+a_select_at_the_end = refl
+
+a_word_left_out : word_outside (text (codes "a union")) (text (codes "First")) ≡ Some (codes "First")
+unfolding text text_at lexemes_from said sign_named signs query_word_named query_words is_among
+a_word_left_out = refl
+
+a_word_left_out_at_the_front : word_outside ([]) (text (codes "Count ( a )")) ≡ Some (codes "Count")
+unfolding text text_at lexemes_from said sign_named signs query_word_named query_words is_among
+a_word_left_out_at_the_front = refl
+
+-- labels
+a_select_in_a_path : word_outside (text (codes "x -> select")) (text (codes "5")) ≡ None
+unfolding text text_at lexemes_from said sign_named signs query_word_named query_words is_among
+a_select_in_a_path = refl
+
+a_select_as_the_first_label : word_outside (text (codes "struct ( select")) (text (codes "5")) ≡ None
+unfolding text text_at lexemes_from said sign_named signs query_word_named query_words is_among
+a_select_as_the_first_label = refl
+
+a_select_as_a_later_label : word_outside (text (codes "struct ( a : b , select")) (text (codes "first")) ≡ Some (codes "first")
+unfolding text text_at lexemes_from said sign_named signs query_word_named query_words is_among
+a_select_as_a_later_label = refl
+
+no_select : word_outside (text (codes "( a union")) (text (codes "select")) ≡ None
+unfolding text text_at lexemes_from said sign_named signs query_word_named query_words is_among
+no_select = refl
+
+-- a fault that goes too deep is told as such, and another one by the word it names
+too_deep_first : cause_by TooDeep (Some (codes "first")) ≡ CTooDeep
+too_deep_first = refl
+
+outside_before_unexpected : cause_by Unexpected (Some (codes "first")) ≡ CNotInProfile (codes "first")
+outside_before_unexpected = refl
+
+unexpected_else : cause_by Unexpected None ≡ CUnexpected
+unexpected_else = refl
+
+-- ---- texts of the grammar
+
+spelled : (n : ℕ) (bs : List ℕ) (x : QueryTree) → whole (query n n) (text bs) ≡ Ok x → QueryText n n x (text bs)
+spelled n bs x e = whole_sound (λ n. query n n) (λ n. QueryText n n) always (λ n. grammar_good n n) n (text bs) x e
+
+refused : (n : ℕ) (bs : List ℕ) (f : Fault Placed) → whole (query n n) (text bs) ≡ Err f → (x : QueryTree) → QueryText n n x (text bs) → ⊥
+refused n bs f e x h = absurd (let i = whole_complete (λ n. query n n) (λ n. QueryText n n) always (λ n. grammar_good n n) n (text bs) x h in cc)
+
+a_difference_is_spelled : QueryText 3 3 (QUnionExcept 2 (QName 0 (codes "a")) (SetLink 2 true (QName 9 (codes "b")) NoSets)) (text (codes "a except b"))
+unfolding text text_at lexemes_from said sign_named signs query_word_named query_words is_among
+a_difference_is_spelled = spelled 3 (codes "a except b") (QUnionExcept 2 (QName 0 (codes "a")) (SetLink 2 true (QName 9 (codes "b")) NoSets)) refl
+
+-- a comparison is no side of another
+no_second_comparison : (x : QueryTree) → QueryText 3 3 x (text (codes "a = b < c")) → ⊥
+unfolding text text_at lexemes_from said sign_named signs query_word_named query_words is_among
+no_second_comparison = refused 3 (codes "a = b < c") (fault Unexpected (text_at 6 (codes "< c"))) refl

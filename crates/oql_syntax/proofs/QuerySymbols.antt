@@ -2,7 +2,6 @@
 use Rattle.std.proofs.Common.{◌≡◌, ℕ, Bool, true, false, List, [], ◌∷◌, ◌++◌, Option, Some, None, refl, sym, ap, subst, ◌∙◌}
 use Rattle.std.specs.List.{find}
 use Rattle.std.specs.Str.{bytes_eq, str_to_ascii_lowercase, str_eq_ignore_ascii_case}
-use Rattle.std.proofs.lemmas.Slice.Eq.{bytes_eq-Decides}
 use Rattle.kola_base.specs.declared.sign.Sign.{Sign}
 use Rattle.kola_base.specs.Alphabets.{sign_or, word_or, says_sign, sign}
 use Rattle.kola_base.specs.Lexemes.{Lexeme, LWord, LNumber, LString, LSign}
@@ -13,14 +12,14 @@ use Rattle.kola_base.specs.Signs.{sign_spelling, sign_named}
 use Rattle.kola_base.proofs.SignLaws.{name_itself, name_equal, sign_again, sign_spells, find_passes}
 use Rattle.kola_parse.specs.Kinds.{Lang, leads, ahead}
 use Rattle.kola_parse.specs.Moves.{NoText, MoveGood}
-use Rattle.kola_parse.specs.Reader.{Answer, then, Move, Stray, Deep, Goes, eat, done}
-use Rattle.kola_parse.specs.Reading.{Ends, never, Inhabited, Reads, Good}
+use Rattle.kola_parse.specs.Reader.{then, Move, Stray, Deep, Goes}
+use Rattle.kola_parse.specs.Reading.{Ends, never, Inhabited, Good}
 use Rattle.kola_parse.specs.Texts.{Nothing, Chained, Led}
 use Rattle.kola_parse.proofs.GoodReaders.{done_good, then_good, eat_good}
 use Rattle.kola_parse.proofs.KindLaws.{Tests, ahead_good}
 use Rattle.oql_syntax.specs.declared.word.QueryWord.{QueryWord}
 use Rattle.oql_syntax.specs.declared.word.QueryWord.TheVariants as q
-use Rattle.oql_syntax.specs.Alphabet.{Kind, KSign, KWord, KName, KNumber, KString, KOther, kind, query_word_spelling, query_words, query_word_named, or_left_out, says_word, word}
+use Rattle.oql_syntax.specs.Alphabet.{Kind, KSign, KWord, KName, kind, query_word_spelling, query_words, query_word_named, or_left_out, says_word}
 use Rattle.oql_syntax.specs.QueryReaders.{Reader, is_word, named, variable_move, variable, literal_of, literal_move, literal, led}
 use Rattle.oql_syntax.specs.QueryTrees.{LitTree, LitBool}
 

@@ -1,27 +1,27 @@
 -- Ranges, and the place in a struct where another range or the next label may come.
-use Rattle.std.proofs.Common.{◌≡◌, ◌⊎◌, inl, inr, ℕ, zero, suc, ◌<◌, Bool, true, false, List, [], ◌∷◌, ◌++◌, Option, Some, None, Ok, Err, refl, sym, ap, subst, ◌∙◌}
+use Rattle.std.proofs.Common.{◌≡◌, ◌⊎◌, inl, inr, ℕ, ◌<◌, Bool, true, false, List, [], ◌∷◌, Option, Some, None, Ok, Err, refl, sym, ap, subst, ◌∙◌}
 use Rattle.kola_base.specs.Named.{Named, name_of}
 use Rattle.kola_base.specs.Placed.{Placed}
 use Rattle.kola_base.specs.declared.sign.Sign.TheVariants as s
-use Rattle.kola_parse.specs.declared.why.Why.TheVariants.{Unexpected, TooDeep}
-use Rattle.kola_parse.specs.Kinds.{Lang, leads, when, ahead, deeper}
-use Rattle.kola_parse.specs.Moves.{NoText, MoveGood, LinkGood, Apart, Needs}
-use Rattle.kola_parse.specs.Reader.{Answer, fault, ◌>>=◌, then, Move, Stray, Deep, Goes, eat, eat_at, done, made, chain, many, other}
+use Rattle.kola_parse.specs.declared.why.Why.TheVariants.{Unexpected}
+use Rattle.kola_parse.specs.Kinds.{Lang, when, ahead}
+use Rattle.kola_parse.specs.Moves.{NoText, MoveGood, LinkGood, Needs}
+use Rattle.kola_parse.specs.Reader.{Answer, fault, ◌>>=◌, then, Move, Stray, eat, eat_at, done, made, chain}
 use Rattle.kola_parse.specs.Reading.{never, Inhabited, Good}
-use Rattle.kola_parse.specs.Texts.{ends, Nothing, Chained, Made, Led, Either, ManyText}
+use Rattle.kola_parse.specs.Texts.{Nothing, Chained, Made, Led, Either, ManyText}
 use Rattle.kola_parse.proofs.ReaderLaws.{no_ok}
-use Rattle.kola_parse.proofs.GoodReaders.{done_good, then_good, eat_good, good_as, made_good}
+use Rattle.kola_parse.proofs.GoodReaders.{done_good, eat_good, good_as, made_good}
 use Rattle.kola_parse.proofs.ManyChains.{manied_good}
 use Rattle.kola_parse.proofs.Options.{other_apart_good}
 use Rattle.kola_parse.proofs.Loops.{chain_stays, chain_nil}
-use Rattle.oql_syntax.specs.Alphabet.{Kind, KSign, KWord, KName, KNumber, KString, kind, query_word_spelling}
+use Rattle.oql_syntax.specs.Alphabet.{Kind, KSign, KWord, KName, kind, query_word_spelling}
 use Rattle.oql_syntax.specs.QueryTrees.{LitBool, QueryTree, QName, QLiteral}
-use Rattle.oql_syntax.specs.QueryReaders.{Reader, is_word, named, variable, led, RangeParts, RangesTailed, Level, PathParts, no_labels, add_label, path_of, label_move, path_by, Operands, no_operands, add_operand, intersect_of, intersect_move, meet_by, SetOperands, no_set_operands, add_set_operand, union_of, union_move, sets_by, set_in, struct_in, flatten_in, some_in, prim_move, prim, meet_from, sets_from, sets, RangeRead, with_as, with_in, as_from, in_move, range_move, range, Next, ARange, ALabel, range_from, only_label, name_next, set_next, open_next, whole_next, word_next, next_move, next, first_range, more_ranges, comma_move, ranges}
+use Rattle.oql_syntax.specs.QueryReaders.{Reader, is_word, named, variable, RangesTailed, Level, PathParts, no_labels, add_label, path_of, label_move, path_by, Operands, no_operands, add_operand, intersect_of, intersect_move, SetOperands, no_set_operands, add_set_operand, union_of, union_move, struct_in, flatten_in, some_in, prim_move, prim, meet_from, sets_from, RangeRead, with_as, with_in, as_from, in_move, range_move, range, Next, ARange, ALabel, range_from, only_label, name_next, set_next, open_next, whole_next, word_next, next_move, next, first_range, more_ranges, comma_move, ranges}
 use Rattle.oql_syntax.specs.Tails.{Tail, Plain, Compared, OpenPlain, OpenCompared, Ranged, Labelled}
 use Rattle.oql_syntax.specs.declared.word.QueryWord.TheVariants as q
-use Rattle.oql_syntax.proofs.QuerySymbols.{sign_token, sign_is, word_token, word_is, word_tests, Ahead, ahead_sign, after_word, no_text, nothing, name_token, name_token_is, Variable, variable_good, weaker, led_good}
-use Rattle.oql_syntax.proofs.GoesOn.{on_path, on_meet, on_sets, on_range, on_full, on_last, on_ranges, on_next}
-use Rattle.oql_syntax.proofs.LevelLaws.{Texts, goes_sets, goes_ranges, LevelGood, Inner, Inside, Deeper, deeper_good, inside_weaker, SetIn, set_in_good, StructIn, struct_in_good, FlattenIn, flatten_in_good, SomeIn, some_in_good, PrimRest, prim_each, named_first, name_tree, SetsFrom, sets_from_good, Sets, sets_good, no_made, no_chained, no_sets_from}
+use Rattle.oql_syntax.proofs.QuerySymbols.{sign_token, sign_is, word_token, word_is, word_tests, Ahead, after_word, no_text, nothing, name_token, Variable, variable_good, led_good}
+use Rattle.oql_syntax.proofs.GoesOn.{on_sets, on_range, on_last, on_ranges, on_next}
+use Rattle.oql_syntax.proofs.LevelLaws.{Texts, goes_ranges, LevelGood, Inner, Inside, Deeper, deeper_good, inside_weaker, SetIn, set_in_good, StructIn, struct_in_good, FlattenIn, flatten_in_good, SomeIn, some_in_good, PrimRest, prim_each, named_first, name_tree, SetsFrom, sets_from_good, Sets, sets_good, no_made, no_chained, no_sets_from}
 
 abbrev goes_range : RangeRead → Placed → Bool
 goes_range r t = on_range r.3 (kind t)

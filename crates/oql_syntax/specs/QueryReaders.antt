@@ -9,10 +9,10 @@ use Rattle.kola_parse.specs.Levels as levels
 use Rattle.kola_parse.specs.Listed.{listed}
 use Rattle.kola_parse.specs.Reader.{Answer, then, Move, Stray, Deep, Goes, eat, done, pair, made, may, chain, many, other, stop, Round, Again, Final, rounds}
 use Rattle.oql_syntax.specs.Alphabet.{Kind, KSign, KWord, KName, KNumber, KString, kind, word, query_word_spelling}
+pub use Rattle.oql_syntax.specs.QueryParts.{named, literal_of, comparison_of, path_tree, chain_tree, union_tree}
 use Rattle.oql_syntax.specs.Tails.{Tail, Plain, Compared, Ranged, Labelled, opened}
-use Rattle.oql_syntax.specs.QueryTrees.{LitTree, LitInt, LitStr, LitBool, QueryTree, QName, QLiteral, QSetOf, QPath, QStruct, QFlatten, QSomeMember, QNot, QIntersect, QAnd, QOr, QUnionExcept, QCompare, QExists, QForAll, QSelect, QueryLinks, QueryWhere, NoWhere, Where, of_links, of_set_links, of_fields, of_ranges}
+use Rattle.oql_syntax.specs.QueryTrees.{LitTree, LitInt, LitStr, LitBool, QueryTree, QName, QLiteral, QSetOf, QStruct, QFlatten, QSomeMember, QNot, QIntersect, QAnd, QOr, QCompare, QExists, QForAll, QSelect, QueryLinks, QueryWhere, NoWhere, Where, of_fields, of_ranges}
 use Rattle.oql_syntax.specs.declared.query.Sign.{Sign}
-use Rattle.oql_syntax.specs.declared.query.Sign.TheVariants as c
 use Rattle.oql_syntax.specs.declared.word.QueryWord.{QueryWord}
 use Rattle.oql_syntax.specs.declared.word.QueryWord.TheVariants as q
 
@@ -25,9 +25,6 @@ Reader A = List Placed → Answer Placed A
 abbrev pub is_word : QueryWord → Placed → Bool
 is_word w = word (query_word_spelling w)
 
-abbrev pub named : List ℕ → ℕ → Named
-named x at = record { name = x; at = at }
-
 abbrev pub variable_move : Kind → ℕ → Move Placed Named
 variable_move (KName x) at = Goes (done (named x at))
 variable_move _ at = Stray
@@ -35,14 +32,6 @@ variable_move _ at = Stray
 -- a name, which is no word of queries
 abbrev pub variable : Reader Named
 variable = eat (λ t. variable_move (kind t) t.at)
-
--- the literal that a token is
-abbrev pub literal_of : Kind → Option LitTree
-literal_of (KNumber z) = Some (LitInt z)
-literal_of (KString b) = Some (LitStr b)
-literal_of (KWord q.True) = Some (LitBool true)
-literal_of (KWord q.False) = Some (LitBool false)
-literal_of _ = None
 
 abbrev pub literal_move : Option LitTree → ℕ → Move Placed (LitTree × ℕ)
 literal_move (Some l) at = Goes (done (l, at))
@@ -150,10 +139,6 @@ no_labels e = (e, [])
 abbrev pub add_label : PathParts → Named → PathParts
 add_label x l = (x.0, x.1 ++ (l.name, l.at) ∷ [])
 
-abbrev pub path_tree : QueryTree → List (List ℕ × ℕ) → QueryTree
-path_tree e [] = e
-path_tree e (l ∷ ls) = QPath l.1 e (l ∷ ls)
-
 abbrev pub path_of : PathParts → QueryTree
 path_of x = path_tree x.0 x.1
 
@@ -176,11 +161,6 @@ no_operands e = (e, [])
 
 abbrev pub add_operand : Operands → ℕ × QueryTree → Operands
 add_operand x l = (x.0, x.1 ++ l ∷ [])
-
--- the place of a chain is that of its first sign
-abbrev pub chain_tree : (ℕ → QueryTree → QueryLinks → QueryTree) → QueryTree → List (ℕ × QueryTree) → QueryTree
-chain_tree k e [] = e
-chain_tree k e (l ∷ ls) = k l.0 e (of_links (l ∷ ls))
 
 abbrev pub intersect_of : Operands → QueryTree
 intersect_of x = chain_tree QIntersect x.0 x.1
@@ -211,10 +191,6 @@ no_set_operands e = (e, [])
 abbrev pub add_set_operand : SetOperands → ℕ × Bool × QueryTree → SetOperands
 add_set_operand x l = (x.0, x.1 ++ l ∷ [])
 
-abbrev pub union_tree : QueryTree → List (ℕ × Bool × QueryTree) → QueryTree
-union_tree e [] = e
-union_tree e (l ∷ ls) = QUnionExcept l.0 e (of_set_links (l ∷ ls))
-
 abbrev pub union_of : SetOperands → QueryTree
 union_of x = union_tree x.0 x.1
 
@@ -237,17 +213,6 @@ abbrev pub sets : ℕ → Option Level → Reader QueryTree
 sets n o = sets_from n o (prim o)
 
 -- ---- comparisons
-
--- the sign of a comparison that a token is
-abbrev pub comparison_of : Kind → Option Sign
-comparison_of (KSign s.Equal) = Some c.Eq
-comparison_of (KSign s.NotEqual) = Some c.Ne
-comparison_of (KSign s.Less) = Some c.Lt
-comparison_of (KSign s.LessEqual) = Some c.Le
-comparison_of (KSign s.Greater) = Some c.Gt
-comparison_of (KSign s.GreaterEqual) = Some c.Ge
-comparison_of (KWord q.In) = Some c.Member
-comparison_of _ = None
 
 abbrev pub plain : QueryTree → Tailed
 plain e = (e, Plain)

@@ -21,3 +21,4 @@ pub mod GrammarSelects
 pub mod GrammarWhole
 pub mod QueryFaultLaws
 pub mod SelectLaws
+pub mod LoopSteps

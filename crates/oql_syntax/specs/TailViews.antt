@@ -1,5 +1,5 @@
 -- What the program's tails are, and what its readers of links answer.
-use Rattle.std.specs.Prelude.{ℕ, Bool, true, false, List, Option}
+use Rattle.std.specs.Prelude.{ℕ, Bool, true, false, List, [], ◌∷◌, ◌++◌, Option, Some, None}
 use Rattle.std.specs.Option.{option_map}
 use Rattle.kola_base.specs.Placed.{Placed}
 use Rattle.oql_syntax.specs.QueryTrees.{QueryTree, QueryLinks, QIntersect, QAnd, QOr, QExists, QForAll}
@@ -12,7 +12,9 @@ use Rattle.oql_syntax.specs.declared.link.Range as range
 use Rattle.oql_syntax.specs.declared.link.Next as next
 use Rattle.oql_syntax.specs.declared.link.Next.TheVariants as nexts
 use Rattle.kola_base.specs.NamedViews.{named_view}
-use Rattle.oql_syntax.specs.QueryReaders.{RangeRead, Next, ARange, ALabel}
+use Rattle.oql_syntax.specs.QueryReaders.{RangeRead, RangeParts, Next, ARange, ALabel, FieldParts, FieldRound}
+use Rattle.kola_base.specs.declared.named.Named as named
+use Rattle.kola_parse.specs.Reader.{Again, Final}
 use Rattle.oql_syntax.specs.declared.link.Joint.{Joint}
 use Rattle.oql_syntax.specs.declared.link.Joint.TheVariants as joint
 
@@ -57,3 +59,20 @@ range_view r = (r.x.name.now, r.x.at, r.e, r.with_as)
 abbrev pub next_view : next.Next → Next
 next_view (nexts.Range r) = ARange (range_view r)
 next_view (nexts.Label l) = ALabel (named_view l)
+
+abbrev pub some_next : Option (next.Next × List Placed) → Option (Next × List Placed)
+some_next o = option_map (λ x. (next_view x.0, x.1)) o
+
+-- the ranges with what stands behind a comma, and how they end then
+abbrev pub ranges_with : List RangeParts → Next → List RangeParts
+ranges_with rs (ARange r) = rs ++ (r.0, r.1, r.2) ∷ []
+ranges_with rs (ALabel l) = rs
+
+abbrev pub tail_with : Next → Tail
+tail_with (ARange r) = Ranged r.3
+tail_with (ALabel l) = Labelled l.name l.at
+
+-- behind the fields fs: the next label, or the end
+abbrev pub round_view : List FieldParts → Option named.Named → FieldRound
+round_view fs (Some l) = Again (fs, l.name.now, l.at)
+round_view fs None = Final fs

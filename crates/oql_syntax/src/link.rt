@@ -1,20 +1,23 @@
 //! How expressions are joined, and how the text of one ended.
 
-ghost use Rattle.std.specs.Prelude.{◌≡◌, IfOk};
+ghost use Rattle.std.specs.Prelude.{◌≡◌, List, IfOk};
+ghost use Rattle.kola_parse.specs.Given.{Gives};
+ghost use Rattle.oql_syntax.specs.QueryReaders.{FieldParts, field_end};
 ghost use Rattle.std.specs.Option.{option_map};
 ghost use Rattle.kola_base.specs.AlphabetViews.{symbol_view};
 ghost use Rattle.oql_syntax.specs.QueryTrees.{QName, QExists, QForAll};
 ghost use Rattle.oql_syntax.specs.Tails.{opened};
 ghost use Rattle.oql_syntax.specs.QueryReaders.{chain_tree, union_tree, comparison_of};
 ghost use Rattle.oql_syntax.specs.QueryForms.{lead, is_select, kind_name, now, behind_in, behind_colon, word_form};
-ghost use Rattle.oql_syntax.specs.TailViews.{tail_view, joint_form, quantifier_form};
+ghost use Rattle.oql_syntax.specs.TailViews.{tail_view, next_view, round_view, ranges_with, tail_with, joint_form, quantifier_form};
 
-use crate::look::Cursor;
+use crate::look::{Cursor, first_of};
 use crate::operand::boxed;
-use crate::query::{BoxedExpr, Chain, Form, SetChain, Sign};
+use crate::query::{BoxedExpr, Chain, Form, Ranges, SetChain, Sign};
 use crate::word::QueryWord;
-use kola_base::{Lexemes, Named, Sign as Mark, Symbol};
+use kola_base::{Lexemes, Named, Sign as Mark, Symbol, expect_sign, name_of};
 use kola_core::{Memory, Name};
+use kola_parse::{Stop, stray};
 use std::alloc::Global;
 
 /// How the text of an expression ended: what may go on it depends on this alone.
@@ -260,5 +263,50 @@ pub(crate) fn word_form(symbol: Symbol<'_, QueryWord>) -> WordForm
         Symbol::Word(QueryWord::Flatten) => WordForm::Flatten,
         Symbol::Word(QueryWord::Exists) => WordForm::SomeMember,
         _ => WordForm::Other,
+    }
+}
+
+/// Takes what stood behind a comma to the ranges, and says how they end then.
+pub(crate) fn take_next<'a>(
+    alloc: Global,
+    ranges: &mut Ranges,
+    next: Next<'a>,
+) -> Result<Tail<'a>, Memory>
+    ensures taken { IfOk result (λ z. ranges.new ≡ ranges_with ranges.old (next_view next.entry)) }
+    ensures ended { IfOk result (λ z. tail_view z ≡ tail_with (next_view next.entry)) }
+{
+    match next {
+        Next::Range(range) => {
+            ranges.push(Name::from_text(alloc, range.x.name)?, range.x.at, range.e)?;
+            Ok(Tail::Ranged(range.with_as))
+        }
+        Next::Label(label) => Ok(Tail::Labelled(label)),
+    }
+}
+
+/// Behind a field that ended so: the next label and its colon, or `None` where the parenthesis closes.
+pub(crate) fn field_end_of<'a>(
+    tail: Tail<'a>,
+    tokens: Cursor<'a>,
+) -> Result<(Option<Named<'a>>, Lexemes<'a>), Stop<Lexemes<'a>>>
+    ensures { (fs : List FieldParts) → Gives (λ x. (round_view fs x.0, x.1)) result
+        (field_end fs (tail_view tail.entry) tokens.entry) }
+{
+    if let Tail::Labelled(label) = tail {
+        return Ok((Some(label), tokens.tokens()));
+    }
+    let first = first_of(tokens.tokens())?;
+    let symbol = first.symbol();
+    if let Symbol::Sign(Mark::Close) = symbol {
+        return Ok((None, first.rest()));
+    }
+    match (tail, symbol) {
+        (Tail::Ranged(_), _) => stray(first.tokens()),
+        (_, Symbol::Sign(Mark::Comma)) => {
+            let (label, rest) = name_of(first.rest())?;
+            let rest = expect_sign(Mark::Colon, rest)?;
+            Ok((Some(label), rest))
+        }
+        _ => stray(first.tokens()),
     }
 }

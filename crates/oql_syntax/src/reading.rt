@@ -1,7 +1,7 @@
 //! Queries from tokens.
 
 ghost use Rattle.std.specs.Prelude.{◌≡◌, ◌<◌, [], IfOk, IsSome, true, false, suc};
-ghost use Rattle.kola_parse.specs.Reader.{eat, eat_at, chain, done, link_at, other, then};
+ghost use Rattle.kola_parse.specs.Reader.{eat, eat_at, chain, done, link_at, many, other, rounds, then};
 ghost use Rattle.kola_parse.specs.Kinds.{ahead};
 ghost use Rattle.kola_parse.specs.Given.{Gives};
 ghost use Rattle.oql_syntax.specs.Alphabet.{kind};
@@ -9,16 +9,17 @@ ghost use Rattle.oql_syntax.specs.QueryTrees.{QName, QForAll, NoWhere};
 ghost use Rattle.kola_base.specs.Named.{name_of};
 ghost use Rattle.kola_base.specs.NamedViews.{named_view};
 ghost use Rattle.oql_syntax.specs.declared.word.QueryWord.TheVariants as words;
-ghost use Rattle.oql_syntax.specs.QueryReaders.{Operands, SetOperands, OperandsTailed, level, below, is_word, variable, closed, prim_move, prim, path_by, intersect_move, add_operand, meet_from, union_move, add_set_operand, sets_from, sets, comparison_of, comparison_by, cmp_from, quantified, exists_move, opennot_move, opennot, and_move, and_from, openand, or_move, or_from, more_operands, where_move, select_rest, select, as_from, in_move, range_move, range_from, next_move, ranges, fields, full};
+ghost use Rattle.oql_syntax.specs.QueryReaders.{Operands, SetOperands, OperandsTailed, level, below, is_word, variable, closed, prim_move, prim, path_by, intersect_move, add_operand, meet_from, union_move, add_set_operand, sets_from, sets, comparison_of, comparison_by, cmp_from, quantified, exists_move, opennot_move, opennot, and_move, and_from, openand, or_move, or_from, more_operands, where_move, select_rest, select, as_from, in_move, range_move, range_from, next_move, next, comma_move, more_ranges, first_range, RangesTailed, ranges, field, first_field, fields, full};
 ghost use Rattle.oql_syntax.specs.QueryForms.{parts_of, set_paren, parts_paren, word_range};
-ghost use Rattle.oql_syntax.specs.TailViews.{tail_view, range_view, next_view, quantifier_form, some_link, some_set_link, some_comparison, some_tailed};
+ghost use Rattle.oql_syntax.specs.TailViews.{tail_view, range_view, next_view, quantifier_form, some_link, some_set_link, some_comparison, some_tailed, some_next};
 
-use crate::link::{Joint, Lead, Next, Quantifier, Range, Tail, WordForm, behind_colon, behind_in, comparison_of, is_select, lead_of, linked, name_at, name_in, opened, quantifier_of, set_linked, word_form};
+use crate::link::{Joint, Lead, Next, Quantifier, Range, Tail, WordForm, behind_colon, behind_in, comparison_of, field_end_of, is_select, lead_of, linked, name_at, name_in, opened, quantifier_of, set_linked, take_next, word_form};
 use crate::look::{Cursor, First, expect_word, first_of};
 use crate::operand::{Operand, Parts, boxed, operand_of, path_of, set_of, variable_of};
-use crate::query::{BoxedExpr, Chain, Form, Lit, Ranges, SetChain, Sign, StructList};
+use crate::query::{BoxedExpr, Chain, Form, Lit, NamedExprs, Ranges, SetChain, Sign, StructList};
 use crate::word::QueryWord;
-use kola_base::{Lexemes, Named, Sign as Mark, Symbol, expect_sign};
+use kola_base::{Lexemes, Named, Sign as Mark, Symbol, expect_sign, name_of};
+use kola_core::Name;
 use kola_parse::{Stop, Why, inner_of, stray};
 use std::alloc::Global;
 
@@ -903,6 +904,146 @@ fn next_of<'a>(
         return Ok((Next::Label(l), Cursor::of(behind)));
     }
     word_range_of(alloc, l, word_form(first.symbol()), rest, links, levels)
+}
+
+// ---- all ranges
+
+/// Another range, or in a field of a struct what stands behind a comma there.
+fn next_at<'a>(
+    alloc: Global,
+    tokens: Lexemes<'a>,
+    links: usize,
+    levels: usize,
+    field: bool,
+) -> Result<(Next<'a>, Cursor<'a>), Stop<Lexemes<'a>>>
+    ensures { Gives (λ x. (next_view x.0, x.1)) result (next links (below links levels) field tokens.entry) }
+{
+    let first = first_of(tokens)?;
+    if field {
+        return next_of(alloc, &first, links, levels);
+    }
+    let (range, rest) = range_of(alloc, &first, links, levels)?;
+    Ok((Next::Range(range), rest))
+}
+
+/// What stands behind a comma behind ranges that ended so, where so many may come.
+fn next_range<'a>(
+    alloc: Global,
+    tail: Tail<'a>,
+    tokens: &Cursor<'a>,
+    links: usize,
+    levels: usize,
+    field: bool,
+    left: usize,
+) -> Result<Option<(Next<'a>, Cursor<'a>)>, Stop<Lexemes<'a>>>
+    ensures link { Gives some_next result (link_at
+        (λ t. comma_move (next links (below links levels) field) (tail_view tail.entry) (kind t)) left tokens.now) }
+    ensures left { IfOk result (λ o. IsSome o → 0 < left) }
+{
+    let Tail::Ranged(_) = tail else {
+        return Ok(None);
+    };
+    let Some(first) = tokens.first() else {
+        return Ok(None);
+    };
+    let Symbol::Sign(Mark::Comma) = first.symbol() else {
+        return Ok(None);
+    };
+    if left == 0 {
+        return Err(Stop::Before(Why::TooDeep, first.tokens()));
+    }
+    let (next, rest) = next_at(alloc, first.rest(), links, levels, field)?;
+    Ok(Some((next, rest)))
+}
+
+/// The ranges from the first one on. There are at most as many others as tokens.
+fn more_ranges_of<'a>(
+    alloc: Global,
+    first: Range<'a>,
+    tokens: Cursor<'a>,
+    links: usize,
+    levels: usize,
+    field: bool,
+) -> Result<(Ranges, Tail<'a>, Cursor<'a>), Stop<Lexemes<'a>>>
+    ensures { Gives (λ x. ((x.0, tail_view x.1), x.2)) result (many
+        (λ (x : RangesTailed) t. comma_move (next links (below links levels) field) x.1 (kind t)) more_ranges
+        (first_range (range_view first.entry)) tokens.entry) }
+{
+    let mut ranges = NamedExprs::new(alloc);
+    let mut tail = take_next(alloc, &mut ranges, Next::Range(first))?;
+    let mut left = tokens.tokens().len();
+    let mut rest = tokens;
+    while let Some((next, behind)) =
+        next_range(alloc, tail, &rest, links, levels, field, left)?
+    {
+        tail = take_next(alloc, &mut ranges, next)?;
+        rest = behind;
+        left -= 1;
+    }
+    Ok((ranges, tail, rest))
+}
+
+/// All ranges of a select.
+fn ranges_at<'a>(
+    alloc: Global,
+    tokens: Lexemes<'a>,
+    links: usize,
+    levels: usize,
+    field: bool,
+) -> Result<(Ranges, Tail<'a>, Cursor<'a>), Stop<Lexemes<'a>>>
+    ensures { Gives (λ x. ((x.0, tail_view x.1), x.2)) result
+        (ranges links (below links levels) field tokens.entry) }
+{
+    let first = first_of(tokens)?;
+    let (range, rest) = range_of(alloc, &first, links, levels)?;
+    more_ranges_of(alloc, range, rest, links, levels, field)
+}
+
+// ---- the fields of a struct
+
+/// The fields behind a label and its colon, up to the parenthesis. There are at most as many as tokens.
+fn more_fields_of<'a>(
+    alloc: Global,
+    first: Named<'a>,
+    tokens: Lexemes<'a>,
+    links: usize,
+    levels: usize,
+) -> Result<(StructList, Lexemes<'a>), Stop<Lexemes<'a>>>
+    ensures { Gives (λ x. x) result (rounds (field (full links true (below links levels)))
+        (first_field (named_view first.entry)) tokens.entry) }
+{
+    let mut fields = NamedExprs::new(alloc);
+    let mut label = first;
+    let mut left = tokens.len();
+    let mut rest = tokens;
+    loop {
+        let (e, tail, behind) = full_at(alloc, rest, links, levels, true)?;
+        fields.push(Name::from_text(alloc, label.name)?, label.at, e)?;
+        let (next, behind) = field_end_of(tail, behind)?;
+        rest = behind;
+        let Some(named) = next else {
+            return Ok((fields, rest));
+        };
+        if left == 0 {
+            return stray(rest);
+        }
+        label = named;
+        left -= 1;
+    }
+}
+
+/// The fields of a struct, up to the parenthesis.
+fn fields_at<'a>(
+    alloc: Global,
+    tokens: Lexemes<'a>,
+    links: usize,
+    levels: usize,
+) -> Result<(StructList, Lexemes<'a>), Stop<Lexemes<'a>>>
+    ensures { Gives (λ x. x) result (fields (full links true (below links levels)) tokens.entry) }
+{
+    let (first, rest) = name_of(tokens)?;
+    let rest = expect_sign(Mark::Colon, rest)?;
+    more_fields_of(alloc, first, rest, links, levels)
 }
 
 // ---- stubs

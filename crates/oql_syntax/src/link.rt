@@ -2,7 +2,9 @@
 
 ghost use Rattle.std.specs.Prelude.{◌≡◌, List, IfOk};
 ghost use Rattle.kola_parse.specs.Given.{Gives};
-ghost use Rattle.oql_syntax.specs.QueryReaders.{FieldParts, field_end};
+ghost use Rattle.oql_syntax.specs.QueryReaders.{FieldParts, last_move, field_move, field_end};
+ghost use Rattle.kola_parse.specs.Reader.{eat};
+ghost use Rattle.oql_syntax.specs.Alphabet.{kind};
 ghost use Rattle.std.specs.Option.{option_map};
 ghost use Rattle.kola_base.specs.AlphabetViews.{symbol_view};
 ghost use Rattle.oql_syntax.specs.QueryTrees.{QName, QExists, QForAll};
@@ -284,29 +286,50 @@ pub(crate) fn take_next<'a>(
     }
 }
 
-/// Behind a field that ended so: the next label and its colon, or `None` where the parenthesis closes.
-pub(crate) fn field_end_of<'a>(
-    tail: Tail<'a>,
-    tokens: Cursor<'a>,
+/// Behind ranges in a field: the parenthesis.
+fn last_end_of<'a>(
+    tokens: Lexemes<'a>,
 ) -> Result<(Option<Named<'a>>, Lexemes<'a>), Stop<Lexemes<'a>>>
     ensures { (fs : List FieldParts) → Gives (λ x. (round_view fs x.0, x.1)) result
-        (field_end fs (tail_view tail.entry) tokens.entry) }
+        (eat (λ t. last_move fs (kind t)) tokens.entry) }
 {
-    if let Tail::Labelled(label) = tail {
-        return Ok((Some(label), tokens.tokens()));
+    let first = first_of(tokens)?;
+    match first.symbol() {
+        Symbol::Sign(Mark::Close) => Ok((None, first.rest())),
+        _ => return stray(first.tokens()),
     }
-    let first = first_of(tokens.tokens())?;
-    let symbol = first.symbol();
-    if let Symbol::Sign(Mark::Close) = symbol {
-        return Ok((None, first.rest()));
-    }
-    match (tail, symbol) {
-        (Tail::Ranged(_), _) => stray(first.tokens()),
-        (_, Symbol::Sign(Mark::Comma)) => {
+}
+
+/// Behind any other field: a comma, the next label and its colon, or the parenthesis.
+fn next_end_of<'a>(
+    tokens: Lexemes<'a>,
+) -> Result<(Option<Named<'a>>, Lexemes<'a>), Stop<Lexemes<'a>>>
+    ensures { (fs : List FieldParts) → Gives (λ x. (round_view fs x.0, x.1)) result
+        (eat (λ t. field_move fs (kind t)) tokens.entry) }
+{
+    let first = first_of(tokens)?;
+    match first.symbol() {
+        Symbol::Sign(Mark::Close) => Ok((None, first.rest())),
+        Symbol::Sign(Mark::Comma) => {
             let (label, rest) = name_of(first.rest())?;
             let rest = expect_sign(Mark::Colon, rest)?;
             Ok((Some(label), rest))
         }
-        _ => stray(first.tokens()),
+        _ => return stray(first.tokens()),
+    }
+}
+
+/// Behind a field that ended so: the next label, its colon taken, or `None` where the parenthesis closes.
+pub(crate) fn field_end_of<'a>(
+    tail: Tail<'a>,
+    tokens: Lexemes<'a>,
+) -> Result<(Option<Named<'a>>, Lexemes<'a>), Stop<Lexemes<'a>>>
+    ensures { (fs : List FieldParts) → Gives (λ x. (round_view fs x.0, x.1)) result
+        (field_end fs (tail_view tail.entry) tokens.entry) }
+{
+    match tail {
+        Tail::Labelled(label) => Ok((Some(label), tokens)),
+        Tail::Ranged(_) => last_end_of(tokens),
+        _ => next_end_of(tokens),
     }
 }

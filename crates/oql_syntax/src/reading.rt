@@ -1019,7 +1019,7 @@ fn more_fields_of<'a>(
     loop {
         let (e, tail, behind) = full_at(alloc, rest, links, levels, true)?;
         fields.push(Name::from_text(alloc, label.name)?, label.at, e)?;
-        let (next, behind) = field_end_of(tail, behind)?;
+        let (next, behind) = field_end_of(tail, behind.tokens())?;
         rest = behind;
         let Some(named) = next else {
             return Ok((fields, rest));

@@ -730,6 +730,7 @@ fn select_of<'a>(
 // ---- ranges
 
 /// A range with `as` from its first operand.
+#[cycle(queries)]
 fn as_of<'a>(
     alloc: Global,
     e: BoxedExpr,
@@ -751,6 +752,7 @@ fn as_of<'a>(
 }
 
 /// A range behind its first word, a name.
+#[cycle(queries)]
 fn named_range_of<'a>(
     alloc: Global,
     x: Named<'a>,
@@ -776,6 +778,7 @@ fn named_range_of<'a>(
 }
 
 /// A range from its first token.
+#[cycle(queries)]
 fn range_of<'a>(
     alloc: Global,
     first: &First<'a>,
@@ -796,6 +799,7 @@ fn range_of<'a>(
 // ---- behind a comma in a field of a struct
 
 /// A range with `as` from its first operand, behind a comma.
+#[cycle(queries)]
 fn next_range_of<'a>(
     alloc: Global,
     e: BoxedExpr,
@@ -811,6 +815,7 @@ fn next_range_of<'a>(
 }
 
 /// A range that begins with `set`, behind that word.
+#[cycle(queries)]
 fn next_set_of<'a>(
     alloc: Global,
     at: usize,
@@ -830,6 +835,7 @@ fn next_set_of<'a>(
 }
 
 /// A range that begins with parts in parentheses, behind their word.
+#[cycle(queries)]
 fn next_parts_of<'a>(
     alloc: Global,
     parts: Parts,
@@ -850,6 +856,7 @@ fn next_parts_of<'a>(
 }
 
 /// A range that begins with a word of the form, the label `l`, behind it.
+#[cycle(queries)]
 fn word_range_of<'a>(
     alloc: Global,
     l: Named<'a>,
@@ -885,6 +892,7 @@ fn word_range_of<'a>(
 }
 
 /// What stands behind a comma in a field of a struct, from its first token.
+#[cycle(queries)]
 fn next_of<'a>(
     alloc: Global,
     first: &First<'a>,
@@ -909,6 +917,7 @@ fn next_of<'a>(
 // ---- all ranges
 
 /// Another range, or in a field of a struct what stands behind a comma there.
+#[cycle(queries)]
 fn next_at<'a>(
     alloc: Global,
     tokens: Lexemes<'a>,
@@ -927,6 +936,7 @@ fn next_at<'a>(
 }
 
 /// What stands behind a comma behind ranges that ended so, where so many may come.
+#[cycle(queries)]
 fn next_range<'a>(
     alloc: Global,
     tail: Tail<'a>,
@@ -957,6 +967,7 @@ fn next_range<'a>(
 }
 
 /// The ranges from the first one on. There are at most as many others as tokens.
+#[cycle(queries)]
 fn more_ranges_of<'a>(
     alloc: Global,
     first: Range<'a>,
@@ -984,7 +995,8 @@ fn more_ranges_of<'a>(
 }
 
 /// All ranges of a select.
-fn ranges_at<'a>(
+#[cycle(queries)]
+fn ranges_of<'a>(
     alloc: Global,
     tokens: Lexemes<'a>,
     links: usize,
@@ -1002,6 +1014,7 @@ fn ranges_at<'a>(
 // ---- the fields of a struct
 
 /// The fields behind a label and its colon, up to the parenthesis. There are at most as many as tokens.
+#[cycle(queries)]
 fn more_fields_of<'a>(
     alloc: Global,
     first: Named<'a>,
@@ -1033,7 +1046,8 @@ fn more_fields_of<'a>(
 }
 
 /// The fields of a struct, up to the parenthesis.
-fn fields_at<'a>(
+#[cycle(queries)]
+fn fields_of<'a>(
     alloc: Global,
     tokens: Lexemes<'a>,
     links: usize,
@@ -1044,30 +1058,4 @@ fn fields_at<'a>(
     let (first, rest) = name_of(tokens)?;
     let rest = expect_sign(Mark::Colon, rest)?;
     more_fields_of(alloc, first, rest, links, levels)
-}
-
-// ---- stubs
-
-fn fields_of<'a>(
-    alloc: Global,
-    tokens: Lexemes<'a>,
-    links: usize,
-    levels: usize,
-) -> Result<(StructList, Lexemes<'a>), Stop<Lexemes<'a>>>
-    ensures { Gives (λ x. x) result (fields (full links true (below links levels)) tokens.entry) }
-{
-    Err(Stop::Memory)
-}
-
-fn ranges_of<'a>(
-    alloc: Global,
-    tokens: Lexemes<'a>,
-    links: usize,
-    levels: usize,
-    field: bool,
-) -> Result<(Ranges, Tail<'a>, Cursor<'a>), Stop<Lexemes<'a>>>
-    ensures { Gives (λ x. ((x.0, tail_view x.1), x.2)) result
-        (ranges links (below links levels) field tokens.entry) }
-{
-    Err(Stop::Memory)
 }

@@ -1,15 +1,16 @@
-use Rattle.kola_parse.specs.Reader.{chain}
+use Rattle.kola_base.specs.NamedViews.{named_view}
+use Rattle.kola_parse.specs.Reader.{chain, few_rounds, final, rounds, ◌>>=◌}
 use Rattle.oql_syntax.specs.Alphabet.{kind}
-use Rattle.oql_syntax.specs.QueryReaders.{Operands, OperandsTailed, SetOperands, add_operand, add_set_operand, and_move, below, intersect_move, meet_from, more_operands, openand, opennot, or_move, path_by, prim, union_move}
-use Rattle.oql_syntax.specs.TailViews.{tail_view}
-use Rattle.std.proofs.Common.{[], ◌*◌, ◌+◌, ◌≡◌}
+use Rattle.oql_syntax.specs.QueryReaders.{Operands, OperandsTailed, RangesTailed, SetOperands, add_operand, add_set_operand, and_move, below, comma_move, field, first_field, first_range, full, intersect_move, meet_from, more_operands, more_ranges, next, openand, opennot, or_move, path_by, prim, union_move}
+use Rattle.oql_syntax.specs.TailViews.{range_view, tail_view}
+use Rattle.std.proofs.Common.{[], length, true, ◌*◌, ◌+◌, ◌≡◌}
 use Rattle.oql_syntax.proofs.reading.+queries.Given as goal
 
 abbrev pub decreases-closed_of : goal.decreases-closed_of
 decreases-closed_of l = 32 * l.levels + 23
 
 abbrev pub decreases-parts_at : goal.decreases-parts_at
-decreases-parts_at l = 32 * l.levels + 24
+decreases-parts_at l = 32 * l.levels + 25
 
 abbrev pub decreases-prim_of : goal.decreases-prim_of
 decreases-prim_of l = 32 * l.levels + 0
@@ -95,6 +96,48 @@ decreases-select_rest_of l = 32 * l.levels + 24
 abbrev pub decreases-select_of : goal.decreases-select_of
 decreases-select_of l = 32 * l.levels + 25
 
+abbrev pub decreases-as_of : goal.decreases-as_of
+decreases-as_of l = 32 * l.levels + 9
+
+abbrev pub decreases-named_range_of : goal.decreases-named_range_of
+decreases-named_range_of l = 32 * l.levels + 10
+
+abbrev pub decreases-range_of : goal.decreases-range_of
+decreases-range_of l = 32 * l.levels + 11
+
+abbrev pub decreases-next_range_of : goal.decreases-next_range_of
+decreases-next_range_of l = 32 * l.levels + 10
+
+abbrev pub decreases-next_set_of : goal.decreases-next_set_of
+decreases-next_set_of l = 32 * l.levels + 11
+
+abbrev pub decreases-next_parts_of : goal.decreases-next_parts_of
+decreases-next_parts_of l = 32 * l.levels + 11
+
+abbrev pub decreases-word_range_of : goal.decreases-word_range_of
+decreases-word_range_of l = 32 * l.levels + 12
+
+abbrev pub decreases-next_of : goal.decreases-next_of
+decreases-next_of l = 32 * l.levels + 13
+
+abbrev pub decreases-next_at : goal.decreases-next_at
+decreases-next_at l = 32 * l.levels + 14
+
+abbrev pub decreases-next_range : goal.decreases-next_range
+decreases-next_range l = 32 * l.levels + 15
+
+abbrev pub decreases-more_ranges_of : goal.decreases-more_ranges_of
+decreases-more_ranges_of l = 32 * l.levels + 16
+
+abbrev pub decreases-ranges_of : goal.decreases-ranges_of
+decreases-ranges_of l = 32 * l.levels + 17
+
+abbrev pub decreases-more_fields_of : goal.decreases-more_fields_of
+decreases-more_fields_of l = 32 * l.levels + 23
+
+abbrev pub decreases-fields_of : goal.decreases-fields_of
+decreases-fields_of l = 32 * l.levels + 24
+
 abbrev pub invariant-ands_of-loop-operands : goal.invariant-ands_of-loop-operands
 invariant-ands_of-loop-operands l =
     chain (λ (x : OperandsTailed) t. and_move (opennot l.links l.field (below l.links l.levels)) x.2 t.at (kind t)) more_operands l.left (l._e, l.operands, tail_view l.tail) l.rest
@@ -126,3 +169,19 @@ invariant-unions_of-loop-operands l =
 
 abbrev pub decreases-unions_of-loop-operands : goal.decreases-unions_of-loop-operands
 decreases-unions_of-loop-operands l = l.left
+
+abbrev pub invariant-more_fields_of-loop-fields : goal.invariant-more_fields_of-loop-fields
+invariant-more_fields_of-loop-fields l =
+    (few_rounds (field (full l.links true (below l.links l.levels))) l.left (l.fields, l.label.name.now, l.label.at) l.rest >>= λ x. final x.0 x.1)
+    ≡ rounds (field (full l.links true (below l.links l.levels))) (first_field (named_view l.fn.first)) l.fn.tokens
+
+abbrev pub decreases-more_fields_of-loop-fields : goal.decreases-more_fields_of-loop-fields
+decreases-more_fields_of-loop-fields l = l.left
+
+abbrev pub invariant-more_ranges_of-loop-ranges : goal.invariant-more_ranges_of-loop-ranges
+invariant-more_ranges_of-loop-ranges l =
+    chain (λ (x : RangesTailed) t. comma_move (next l.links (below l.links l.levels) l.field) x.1 (kind t)) more_ranges l.left (l.ranges, tail_view l.tail) l.rest
+    ≡ chain (λ (x : RangesTailed) t. comma_move (next l.links (below l.links l.levels) l.field) x.1 (kind t)) more_ranges (length l.fn.tokens) (first_range (range_view l.fn.first)) l.fn.tokens
+
+abbrev pub decreases-more_ranges_of-loop-ranges : goal.decreases-more_ranges_of-loop-ranges
+decreases-more_ranges_of-loop-ranges l = l.left

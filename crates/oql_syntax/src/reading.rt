@@ -9,7 +9,7 @@ ghost use Rattle.oql_syntax.specs.QueryTrees.{QName, QForAll, NoWhere};
 ghost use Rattle.kola_base.specs.Named.{name_of};
 ghost use Rattle.kola_base.specs.NamedViews.{named_view};
 ghost use Rattle.oql_syntax.specs.declared.word.QueryWord.TheVariants as words;
-ghost use Rattle.oql_syntax.specs.QueryReaders.{Operands, SetOperands, OperandsTailed, level, below, is_word, variable, closed, prim_move, prim, path_by, intersect_move, add_operand, meet_from, union_move, add_set_operand, sets_from, sets, comparison_of, comparison_by, cmp_from, quantified, exists_move, opennot_move, opennot, and_move, and_from, openand, or_move, or_from, more_operands, where_move, select_rest, select, as_from, in_move, range_move, range_from, next_move, next, comma_move, more_ranges, first_range, RangesTailed, ranges, field, first_field, fields, full};
+ghost use Rattle.oql_syntax.specs.QueryReaders.{Operands, SetOperands, OperandsTailed, level, below, is_word, variable, closed, prim_move, prim, path_by, intersect_move, add_operand, meet_from, union_move, add_set_operand, sets_from, sets, comparison_of, comparison_by, cmp_from, quantified, exists_move, opennot_move, opennot, and_move, and_from, openand, or_move, or_from, more_operands, where_move, select_rest, select, as_from, in_move, range_move, range_from, next_move, next, comma_move, more_ranges, first_range, RangesTailed, ranges, field, first_field, fields, full, ending, query};
 ghost use Rattle.oql_syntax.specs.QueryForms.{parts_of, set_paren, parts_paren, word_range};
 ghost use Rattle.oql_syntax.specs.TailViews.{tail_view, range_view, next_view, quantifier_form, some_link, some_set_link, some_comparison, some_tailed, some_next};
 
@@ -1058,4 +1058,37 @@ fn fields_of<'a>(
     let (first, rest) = name_of(tokens)?;
     let rest = expect_sign(Mark::Colon, rest)?;
     more_fields_of(alloc, first, rest, links, levels)
+}
+
+// ---- whole queries
+
+/// The semicolon or none, and the end of the text, behind the expression `_e`.
+fn end_of<'a>(_e: &BoxedExpr, tokens: &Cursor<'a>) -> Result<(), Stop<Lexemes<'a>>>
+    ensures { Gives (λ _. (_e.now, [])) result (ending _e.now tokens.now) }
+{
+    let Some(first) = tokens.first() else {
+        return Ok(());
+    };
+    let Symbol::Sign(Mark::Semicolon) = first.symbol() else {
+        return stray(first.tokens());
+    };
+    let rest = first.rest();
+    match rest.split() {
+        None => Ok(()),
+        Some(_) => stray(rest),
+    }
+}
+
+/// A whole query, with chains of so many links and so many levels below it. It stops where no query goes on, or none within these.
+pub(crate) fn query_of<'a>(
+    alloc: Global,
+    tokens: Lexemes<'a>,
+    links: usize,
+    levels: usize,
+) -> Result<BoxedExpr, Stop<Lexemes<'a>>>
+    ensures { Gives (λ e. (e, [])) result (query links levels tokens.entry) }
+{
+    let (e, _, rest) = full_at(alloc, tokens, links, levels, false)?;
+    end_of(&e, &rest)?;
+    Ok(e)
 }

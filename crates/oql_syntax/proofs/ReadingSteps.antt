@@ -169,5 +169,5 @@ pub select_ends : (n : ℕ) (i : Level) (b : Bool) (at : ℕ) (h : QueryTree) (t
 select_ends n i b at h ts r u rs z l e k =
     ap (λ (y : Answer Placed RangesTailed). ((y >>= λ x. done (no_where x.0) x.1) >>= λ x. where_chain (i.full b) (suc n) x.0 x.1) >>= λ x. done (selected at h x.0) x.1) e
     ∙ ap (λ (y : Answer Placed SelectParts). y >>= λ x. done (selected at h x.0) x.1)
-      (chain_goes (λ (x : SelectParts) t. where_move (i.full b) x.1 x.2 t.at (kind t)) with_where (suc n) (rs, NoWhere, z) r l u k
-       ∙ where_stays (i.full b) (suc n - 1) rs l.0 l.1 (opened l.2) u)
+    (chain_goes (λ (x : SelectParts) t. where_move (i.full b) x.1 x.2 t.at (kind t)) with_where (suc n) (rs, NoWhere, z) r l u k
+    ∙ where_stays (i.full b) (suc n - 1) rs l.0 l.1 (opened l.2) u)

@@ -77,11 +77,7 @@ pub(crate) fn linked(
 }
 
 /// The same for `union` and `except`.
-pub(crate) fn set_linked(
-    alloc: Global,
-    e: BoxedExpr,
-    links: SetChain,
-) -> Result<BoxedExpr, Memory>
+pub(crate) fn set_linked(alloc: Global, e: BoxedExpr, links: SetChain) -> Result<BoxedExpr, Memory>
     ensures { IfOk result (λ b. b ≡ union_tree e links) }
 {
     match links.first_place() {

@@ -13,7 +13,11 @@ ghost use Rattle.oql_syntax.specs.QueryReaders.{Operands, SetOperands, OperandsT
 ghost use Rattle.oql_syntax.specs.QueryForms.{parts_of, set_paren, parts_paren, word_range};
 ghost use Rattle.oql_syntax.specs.TailViews.{tail_view, range_view, next_view, quantifier_form, some_link, some_set_link, some_comparison, some_tailed, some_next};
 
-use crate::link::{Joint, Lead, Next, Quantifier, Range, Tail, WordForm, behind_colon, behind_in, comparison_of, field_end_of, is_select, lead_of, linked, name_at, name_in, opened, quantifier_of, set_linked, take_next, word_form};
+use crate::link::{
+    Joint, Lead, Next, Quantifier, Range, Tail, WordForm, behind_colon, behind_in, comparison_of,
+    field_end_of, is_select, lead_of, linked, name_at, name_in, opened, quantifier_of, set_linked,
+    take_next, word_form,
+};
 use crate::look::{Cursor, First, expect_word, first_of};
 use crate::operand::{Operand, Parts, boxed, operand_of, path_of, set_of, variable_of};
 use crate::query::{BoxedExpr, Chain, Form, Lit, NamedExprs, Ranges, SetChain, Sign, StructList};
@@ -367,13 +371,7 @@ fn exists_of<'a>(
             quantified_of(alloc, by, first.rest(), links, inner, field)
         }
         Symbol::Sign(Mark::Open) => {
-            let (e, rest) = parts_at(
-                alloc,
-                Parts::SomeMember(at),
-                first.rest(),
-                links,
-                inner,
-            )?;
+            let (e, rest) = parts_at(alloc, Parts::SomeMember(at), first.rest(), links, inner)?;
             cmp_of(alloc, e, rest, links, levels)
         }
         _ => return stray(first.tokens()),
@@ -503,9 +501,9 @@ fn ands_of<'a>(
     let mut tail = end;
     let mut rest = tokens;
     let mut left = links;
-    while let Some((at, e, ended, behind)) =
-        next_and(alloc, tail, &rest, links, levels, field, left)?
-    {
+    while let Some((at, e, ended, behind)) = next_and(
+        alloc, tail, &rest, links, levels, field, left,
+    )? {
         operands.push(at, e)?;
         tail = ended;
         rest = behind;
@@ -600,9 +598,9 @@ fn ors_of<'a>(
     let mut tail = end;
     let mut rest = tokens;
     let mut left = links;
-    while let Some((at, e, ended, behind)) =
-        next_or(alloc, tail, &rest, links, levels, field, left)?
-    {
+    while let Some((at, e, ended, behind)) = next_or(
+        alloc, tail, &rest, links, levels, field, left,
+    )? {
         operands.push(at, e)?;
         tail = ended;
         rest = behind;
@@ -698,7 +696,11 @@ fn select_rest_of<'a>(
     let (ranges, tail, rest) = ranges_of(alloc, tokens, links, levels, field)?;
     match where_of(alloc, tail, &rest, links, levels, field)? {
         Some((place, condition, ended, behind)) => {
-            let e = boxed(alloc, at, Form::Select(head, ranges, Some((place, condition))))?;
+            let e = boxed(
+                alloc,
+                at,
+                Form::Select(head, ranges, Some((place, condition))),
+            )?;
             Ok((e, opened(ended), behind))
         }
         None => {
@@ -790,7 +792,13 @@ fn range_of<'a>(
 {
     if let Some(name) = name_in(first.symbol()) {
         let at = first.at();
-        return named_range_of(alloc, Named { name, at }, Cursor::of(first.rest()), links, levels);
+        return named_range_of(
+            alloc,
+            Named { name, at },
+            Cursor::of(first.rest()),
+            links,
+            levels,
+        );
     }
     let (e, rest) = prim_of(alloc, first, links, levels)?;
     as_of(alloc, e, rest, links, levels)
@@ -885,7 +893,13 @@ fn word_range_of<'a>(
             next_parts_of(alloc, Parts::Flatten(l.at), tokens.tokens(), links, levels)
         }
         WordForm::SomeMember => {
-            next_parts_of(alloc, Parts::SomeMember(l.at), tokens.tokens(), links, levels)
+            next_parts_of(
+                alloc,
+                Parts::SomeMember(l.at),
+                tokens.tokens(),
+                links,
+                levels,
+            )
         }
         WordForm::Name | WordForm::Other => return stray(tokens.tokens()),
     }
@@ -984,9 +998,7 @@ fn more_ranges_of<'a>(
     let mut tail = take_next(alloc, &mut ranges, Next::Range(first))?;
     let mut left = tokens.tokens().len();
     let mut rest = tokens;
-    while let Some((next, behind)) =
-        next_range(alloc, tail, &rest, links, levels, field, left)?
-    {
+    while let Some((next, behind)) = next_range(alloc, tail, &rest, links, levels, field, left)? {
         tail = take_next(alloc, &mut ranges, next)?;
         rest = behind;
         left -= 1;

@@ -31,7 +31,7 @@ opennot_of-returns-in_ok-inner-in-Exists t c =
     let k = exists_led (kind f.0) (ap lead (sym c.symbol.ensures) ∙ sym c.in-Exists.ensures) in
     gives_along (λ x. ((x.0, tail_view x.1), x.2)) c.exists_of.result _ _
     (ap (λ (k : Kind). eat_at (opennot_move n c.args.field o k f.0.at) f.0 f.1) k
-     ∙ deeper_as o (level n (below n c.in_ok-inner-in-Exists.inner)) (λ i. eat (λ u. exists_move n c.args.field o i f.0.at (kind u))) f.0 f.1 (ap (below n) c.in_ok-inner-in-Exists.ensures.ok.0))
+    ∙ deeper_as o (level n (below n c.in_ok-inner-in-Exists.inner)) (λ i. eat (λ u. exists_move n c.args.field o i f.0.at (kind u))) f.0 f.1 (ap (below n) c.in_ok-inner-in-Exists.ensures.ok.0))
     (rw (c.at-in-Exists.ensures, c.rest-in-Exists.ensures) at c.exists_of.ensures)
 
 pub opennot_of-returns-in_ok-inner-in-All : goal.opennot_of-returns-in_ok-inner-in-All
@@ -42,7 +42,7 @@ opennot_of-returns-in_ok-inner-in-All t c =
     let k = for_led (kind f.0) (ap lead (sym c.symbol.ensures) ∙ sym c.in-All.ensures) in
     gives_along (λ x. ((x.0, tail_view x.1), x.2)) c.for_all_of.result _ _
     (ap (λ (k : Kind). eat_at (opennot_move n c.args.field o k f.0.at) f.0 f.1) k
-     ∙ deeper_as o (level n (below n c.in_ok-inner-in-All.inner)) (λ i. ahead (is_word words.All) (then variable (λ x. quantified i c.args.field (QForAll f.0.at x.name)))) f.0 f.1 (ap (below n) c.in_ok-inner-in-All.ensures.ok.0))
+    ∙ deeper_as o (level n (below n c.in_ok-inner-in-All.inner)) (λ i. ahead (is_word words.All) (then variable (λ x. quantified i c.args.field (QForAll f.0.at x.name)))) f.0 f.1 (ap (below n) c.in_ok-inner-in-All.ensures.ok.0))
     (rw (c.at-in-All.ensures, c.rest-in-All.ensures) at c.for_all_of.ensures)
 
 pub opennot_of-returns-in_ok-e-in-Other : goal.opennot_of-returns-in_ok-e-in-Other
@@ -72,9 +72,9 @@ exists_of-returns-in-Name t c =
     let f = c.in_ok-first.first in
     gives_along (λ x. ((x.0, tail_view x.1), x.2)) c.quantified_of.result _ _
     (eat_as (λ u. exists_move c.args.links c.args.field o i c.args.at (kind u)) f.0 f.1 c.args.tokens c.in_ok-first.ensures.ok
-     ∙ ap (λ (k : Kind). eat_at (exists_move c.args.links c.args.field o i c.args.at k) f.0 f.1) (sym c.in-Name.ensures)
-     ∙ ap (λ (k : QueryTree → QueryTree → QueryTree). quantified i c.args.field k f.1) (sym c.some-by.ensures)
-     ∙ ap (λ (r : List Placed). quantified i c.args.field (quantifier_form c.some-by.result) r) (sym c.rest.ensures))
+    ∙ ap (λ (k : Kind). eat_at (exists_move c.args.links c.args.field o i c.args.at k) f.0 f.1) (sym c.in-Name.ensures)
+    ∙ ap (λ (k : QueryTree → QueryTree → QueryTree). quantified i c.args.field k f.1) (sym c.some-by.ensures)
+    ∙ ap (λ (r : List Placed). quantified i c.args.field (quantifier_form c.some-by.result) r) (sym c.rest.ensures))
     c.quantified_of.ensures
 
 pub exists_of-returns-in_ok-e-in-Sign-Open : goal.exists_of-returns-in_ok-e-in-Sign-Open
@@ -84,8 +84,8 @@ exists_of-returns-in_ok-e-in-Sign-Open t c =
     let f = c.in_ok-first.first in
     gives_along (λ x. ((x.0, tail_view x.1), x.2)) c.cmp_of.result _ _
     (eat_as (λ u. exists_move c.args.links c.args.field o i c.args.at (kind u)) f.0 f.1 c.args.tokens c.in_ok-first.ensures.ok
-     ∙ ap (λ (k : Kind). eat_at (exists_move c.args.links c.args.field o i c.args.at k) f.0 f.1) (sym c.in-Sign-Open.ensures ∙ ap KSign c.in-Sign-Open.field-0-is)
-     ∙ (cmp_runs c.args.links o).goes (some_in i c.args.at) f.1 c.in_ok-e-in-Sign-Open.rest c.in_ok-e-in-Sign-Open.e (rw c.rest-in-Sign-Open.ensures at c.in_ok-e-in-Sign-Open.ensures))
+    ∙ ap (λ (k : Kind). eat_at (exists_move c.args.links c.args.field o i c.args.at k) f.0 f.1) (sym c.in-Sign-Open.ensures ∙ ap KSign c.in-Sign-Open.field-0-is)
+    ∙ (cmp_runs c.args.links o).goes (some_in i c.args.at) f.1 c.in_ok-e-in-Sign-Open.rest c.in_ok-e-in-Sign-Open.e (rw c.rest-in-Sign-Open.ensures at c.in_ok-e-in-Sign-Open.ensures))
     c.cmp_of.ensures
 
 pub for_all_of-returns : goal.for_all_of-returns
@@ -93,7 +93,7 @@ for_all_of-returns t c =
     let i = level c.args.links (below c.args.links c.args.levels) in
     gives_along (λ x. ((x.0, tail_view x.1), x.2)) c.quantified_of.result _ _
     (ahead_goes (is_word words.All) variable (λ x. quantified i c.args.field (QForAll c.args.at x.name)) c.args.tokens c.in_ok-rest.rest c.in_ok-x.rest (named_view c.in_ok-x.x) c.in_ok-rest.ensures c.in_ok-x.ensures
-     ∙ ap (λ (k : QueryTree → QueryTree → QueryTree). quantified i c.args.field k c.in_ok-x.rest) (sym c.every-by.ensures))
+    ∙ ap (λ (k : QueryTree → QueryTree → QueryTree). quantified i c.args.field k c.in_ok-x.rest) (sym c.every-by.ensures))
     c.quantified_of.ensures
 
 pub full_at-returns-then-is_select : goal.full_at-returns-then-is_select
@@ -105,8 +105,8 @@ full_at-returns-then-is_select t c =
     let k = select_is (kind f.0) (ap is_select (sym c.symbol.ensures) ∙ sym c.is_select.ensures ∙ c.if-is_select.true) in
     gives_along (λ x. ((x.0, tail_view x.1), x.2)) c.select_of.result _ _
     (eat_as (λ t. full_move n b o (kind t) t.at) f.0 f.1 c.args.tokens c.in_ok-first.ensures.ok
-     ∙ ap (λ (k : Kind). eat_at (full_move n b o k f.0.at) f.0 f.1) k
-     ∙ deeper_as o (level n (below n c.in_ok-inner.inner)) (λ i. select n i b f.0.at) f.0 f.1 (ap (below n) c.in_ok-inner.ensures.ok.0))
+    ∙ ap (λ (k : Kind). eat_at (full_move n b o k f.0.at) f.0 f.1) k
+    ∙ deeper_as o (level n (below n c.in_ok-inner.inner)) (λ i. select n i b f.0.at) f.0 f.1 (ap (below n) c.in_ok-inner.ensures.ok.0))
     (rw (c.at.ensures, c.rest.ensures) at c.select_of.ensures)
 
 pub full_at-returns-in_err-e-2 : goal.full_at-returns-in_err-e-2
@@ -119,11 +119,11 @@ full_at-returns-in_err-e-2 t c =
     let k = no_select n b o f.0.at (kind f.0) (ap is_select (sym c.symbol.ensures) ∙ sym c.is_select.ensures ∙ c.if-is_select.false) in
     let p = err_from_is_err_and c.from_residual-in_err-e-2.result c.from_residual-in_err-e-2.ensures.1 in
     let whole =
-        eat_as (λ t. full_move n b o (kind t) t.at) f.0 f.1 c.args.tokens c.in_ok-first.ensures.ok
-        ∙ ap (λ (m : Move Placed Tailed). eat_at m f.0 f.1) k
-        ∙ led_goes (openor_runs n b o) f.0 f.1 (opennot_move n b o (kind f.0) f.0.at) v c.in_ok-e.rest c.in_ok-e.ensures in
+    eat_as (λ t. full_move n b o (kind t) t.at) f.0 f.1 c.args.tokens c.in_ok-first.ensures.ok
+    ∙ ap (λ (m : Move Placed Tailed). eat_at m f.0 f.1) k
+    ∙ led_goes (openor_runs n b o) f.0 f.1 (opennot_move n b o (kind f.0) f.0.at) v c.in_ok-e.rest c.in_ok-e.ensures in
     rw (p.1, p.2) (Fails-along c.in_err-e-2.field-0.0 (openor_from n b o (done v) c.in_ok-e.rest) (full n b o c.args.tokens) (sym whole)
-                   (runs_stops (or_runs n (openand n b o)) (and_from n (opennot n b o) (done v)) c.in_ok-e.rest c.in_err-e-2.field-0.0 c.in_err-e-2.ensures))
+    (runs_stops (or_runs n (openand n b o)) (and_from n (opennot n b o) (done v)) c.in_ok-e.rest c.in_err-e-2.field-0.0 c.in_err-e-2.ensures))
 
 pub full_at-returns : goal.full_at-returns
 full_at-returns t c =
@@ -135,9 +135,9 @@ full_at-returns t c =
     let k = no_select n b o f.0.at (kind f.0) (ap is_select (sym c.symbol.ensures) ∙ sym c.is_select.ensures ∙ c.if-is_select.false) in
     gives_along (λ x. ((x.0, tail_view x.1), x.2)) c.or_of.result _ _
     (eat_as (λ t. full_move n b o (kind t) t.at) f.0 f.1 c.args.tokens c.in_ok-first.ensures.ok
-     ∙ ap (λ (m : Move Placed Tailed). eat_at m f.0 f.1) k
-     ∙ led_goes (openor_runs n b o) f.0 f.1 (opennot_move n b o (kind f.0) f.0.at) v c.in_ok-e.rest c.in_ok-e.ensures
-     ∙ (or_runs n (openand n b o)).goes (and_from n (opennot n b o) (done v)) c.in_ok-e.rest c.in_ok-e-2.rest (c.in_ok-e-2.e, tail_view c.in_ok-e-2.tail) c.in_ok-e-2.ensures)
+    ∙ ap (λ (m : Move Placed Tailed). eat_at m f.0 f.1) k
+    ∙ led_goes (openor_runs n b o) f.0 f.1 (opennot_move n b o (kind f.0) f.0.at) v c.in_ok-e.rest c.in_ok-e.ensures
+    ∙ (or_runs n (openand n b o)).goes (and_from n (opennot n b o) (done v)) c.in_ok-e.rest c.in_ok-e-2.rest (c.in_ok-e-2.e, tail_view c.in_ok-e-2.tail) c.in_ok-e-2.ensures)
     c.or_of.ensures
 
 pub intersects_of-returns : goal.intersects_of-returns
@@ -186,7 +186,7 @@ more_fields_of-returns-in_err-e t c =
     let a : FieldState = (c.loop-fields.fields, c.loop-fields.label.name.now, c.loop-fields.label.at) in
     let x = err_from_is_err_and c.from_residual.result c.from_residual.ensures.1 in
     rw (x.1, x.2) (Fails-along c.in_err-e.field-0.0 (few_rounds (field p) c.loop-fields.left a c.loop-fields.rest >>= λ x. final x.0 x.1) (rounds (field p) (first_field (named_view c.args.first)) c.args.tokens) c.loop-fields.invariant
-                   (rounds_stop (field p) c.loop-fields.left a c.loop-fields.rest c.in_err-e.field-0.0 (field_stops p a c.loop-fields.rest c.in_err-e.field-0.0 c.in_err-e.ensures)))
+    (rounds_stop (field p) c.loop-fields.left a c.loop-fields.rest c.in_err-e.field-0.0 (field_stops p a c.loop-fields.rest c.in_err-e.field-0.0 c.in_err-e.ensures)))
 
 pub more_fields_of-returns-in_err-next : goal.more_fields_of-returns-in_err-next
 more_fields_of-returns-in_err-next t c =
@@ -196,7 +196,7 @@ more_fields_of-returns-in_err-next t c =
     let fs : List FieldParts = a.0 ++ (a.1, a.2, v.0) ∷ [] in
     let x = err_from_is_err_and c.from_residual-in_err-next.result c.from_residual-in_err-next.ensures.1 in
     rw (x.1, x.2) (Fails-along c.in_err-next.field-0.0 (few_rounds (field p) c.loop-fields.left a c.loop-fields.rest >>= λ x. final x.0 x.1) (rounds (field p) (first_field (named_view c.args.first)) c.args.tokens) c.loop-fields.invariant
-                   (rounds_stop (field p) c.loop-fields.left a c.loop-fields.rest c.in_err-next.field-0.0 (field_end_stops p a c.loop-fields.rest c.in_ok-e.behind v c.in_err-next.field-0.0 c.in_ok-e.ensures (rw c.tokens.ensures at (c.in_err-next.ensures fs)))))
+    (rounds_stop (field p) c.loop-fields.left a c.loop-fields.rest c.in_err-next.field-0.0 (field_end_stops p a c.loop-fields.rest c.in_ok-e.behind v c.in_err-next.field-0.0 c.in_ok-e.ensures (rw c.tokens.ensures at (c.in_err-next.ensures fs)))))
 
 pub more_fields_of-returns-in_default : goal.more_fields_of-returns-in_default
 more_fields_of-returns-in_default t c =
@@ -219,7 +219,7 @@ more_fields_of-returns-then-left-eq0 t c =
     let d : FieldState = (fs, c.in-Some.named.name.now, c.in-Some.named.at) in
     rw c.stray.ensures
     (sym c.loop-fields.invariant
-     ∙ rounds_out (field p) c.loop-fields.left a d c.loop-fields.rest c.in_ok-next.behind (omega (arith, c.if-left-eq0.true)) (one_field p a c.loop-fields.rest c.in_ok-e.behind c.in_ok-next.behind v (Again d) c.in_ok-e.ensures (rw (c.tokens.ensures, c.in-Some.is) at (c.in_ok-next.ensures fs))))
+    ∙ rounds_out (field p) c.loop-fields.left a d c.loop-fields.rest c.in_ok-next.behind (omega (arith, c.if-left-eq0.true)) (one_field p a c.loop-fields.rest c.in_ok-e.behind c.in_ok-next.behind v (Again d) c.in_ok-e.ensures (rw (c.tokens.ensures, c.in-Some.is) at (c.in_ok-next.ensures fs))))
 
 pub more_fields_of-loop-fields-preserved : goal.more_fields_of-loop-fields-preserved
 more_fields_of-loop-fields-preserved t c =
@@ -251,8 +251,8 @@ named_range_of-returns t c =
     let e = c.in_ok-e-2.ensures in
     gives_along (λ x. (range_view x.0, x.1)) c.as_of.result _ _
     (no_in n o (named_view c.args.x) (as_from n o (done (QName c.args.x.at c.args.x.name.now))) c.args.tokens (sym c.behind_in.ensures ∙ c.in_default.is)
-     ∙ ap (λ (e : QueryTree). as_from n o (done e) c.args.tokens) (sym e)
-     ∙ ap (λ (r : List Placed). as_from n o (done c.in_ok-e-2.e) r) (sym c.tokens.ensures))
+    ∙ ap (λ (e : QueryTree). as_from n o (done e) c.args.tokens) (sym e)
+    ∙ ap (λ (r : List Placed). as_from n o (done c.in_ok-e-2.e) r) (sym c.tokens.ensures))
     c.as_of.ensures
 
 pub next_of-returns : goal.next_of-returns
@@ -266,9 +266,9 @@ next_of-returns t c =
     let form = c.word_form.ensures ∙ ap word_form c.symbol.ensures in
     gives_along (λ x. (next_view x.0, x.1)) c.word_range_of.result _ _
     (ap (λ (x : Option Named). eat_at (next_move n o x (kind f.0) f.0.at) f.0 f.1) name
-     ∙ no_colon n o l (kind f.0) f.1 (name_same f.0 l name) (ap behind_colon (sym rest) ∙ sym c.behind_colon.ensures ∙ c.in_default-behind_colon.is)
-     ∙ ap (λ (k : WordForm). word_range n o l k f.1) (sym form)
-     ∙ ap (λ (r : List Placed). word_range n o l c.word_form.result r) (sym rest))
+    ∙ no_colon n o l (kind f.0) f.1 (name_same f.0 l name) (ap behind_colon (sym rest) ∙ sym c.behind_colon.ensures ∙ c.in_default-behind_colon.is)
+    ∙ ap (λ (k : WordForm). word_range n o l k f.1) (sym form)
+    ∙ ap (λ (r : List Placed). word_range n o l c.word_form.result r) (sym rest))
     c.word_range_of.ensures
 
 pub next_parts_of-returns : goal.next_parts_of-returns
@@ -279,9 +279,9 @@ next_parts_of-returns t c =
     let i = level n (below n c.in_ok-inner.inner) in
     gives_along (λ x. (next_view x.0, x.1)) c.next_range_of.result _ _
     (eat_as (λ u. parts_paren n o c.args.parts (kind u)) f.0 f.1 c.args.tokens c.in_ok-first.ensures.ok
-     ∙ ap (λ (k : Kind). eat_at (parts_paren n o c.args.parts k) f.0 f.1) (sym c.in-Sign-Open.ensures ∙ ap KSign c.in-Sign-Open.field-0-is)
-     ∙ deeper_as o i (λ i. range_from n o (parts_of c.args.parts i)) f.0 f.1 (ap (below n) c.in_ok-inner.ensures.ok.0)
-     ∙ (range_runs n o).goes (parts_of c.args.parts i) f.1 c.in_ok-e.rest c.in_ok-e.e (rw c.rest.ensures at c.in_ok-e.ensures))
+    ∙ ap (λ (k : Kind). eat_at (parts_paren n o c.args.parts k) f.0 f.1) (sym c.in-Sign-Open.ensures ∙ ap KSign c.in-Sign-Open.field-0-is)
+    ∙ deeper_as o i (λ i. range_from n o (parts_of c.args.parts i)) f.0 f.1 (ap (below n) c.in_ok-inner.ensures.ok.0)
+    ∙ (range_runs n o).goes (parts_of c.args.parts i) f.1 c.in_ok-e.rest c.in_ok-e.e (rw c.rest.ensures at c.in_ok-e.ensures))
     c.next_range_of.ensures
 
 pub range_of-returns-in-Some : goal.range_of-returns-in-Some

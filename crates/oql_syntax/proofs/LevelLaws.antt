@@ -13,7 +13,7 @@ use Rattle.kola_parse.specs.Reading.{Ends, never, Inhabited, Reads, Good}
 use Rattle.kola_parse.specs.Texts.{ends, Nothing, Chained, Made, Paired, Led, ChainText}
 use Rattle.kola_parse.proofs.GoodReaders.{done_good, next_good, eat_good, good_as, made_good, pair_good}
 use Rattle.kola_parse.proofs.Chains.{chained_good}
-use Rattle.kola_parse.proofs.ListedLaws.{ItemOr, IsTaken, listed_good}
+use Rattle.kola_parse.proofs.ListedLaws.{IsList, ItemOr, IsTaken, listed_good}
 use Rattle.oql_syntax.specs.Alphabet.{Kind, KSign, KWord, KName, KNumber, KString, kind}
 use Rattle.oql_syntax.specs.QueryTrees.{LitTree, LitInt, LitStr, LitBool, QueryTree, QName, QLiteral, QSetOf, QFlatten, QSomeMember, QAnd, QOr, QExists, QForAll, QueryWhere, NoWhere, Where}
 use Rattle.oql_syntax.specs.QueryReaders.{Reader, Tailed, RangesTailed, FieldParts, Level, closed, next_literal_move, next_literal, first_and, literals, set_in, struct_tree, struct_in, flatten_in, some_in, prim_move, prim, PathParts, no_labels, add_label, path_of, label_move, path_by, Operands, no_operands, add_operand, intersect_of, at_place, intersect_move, meet_by, meet_from, SetOperands, no_set_operands, add_set_operand, union_of, set_operand, union_move, sets_by, sets_from, sets, comparison_of, plain, compared, compared_with, comparison_by, comparison_move, cmp_from, with_body, quantified, exists_move, not_tree, opennot_move, opennot, OperandsTailed, first_operand, more_operands, joined, placed_operand, and_move, and_from, or_move, or_from, openor_from, SelectParts, no_where, with_where, selected, where_move, select_rest, select, full_move, full}
@@ -123,6 +123,9 @@ next_literal_good On = good_as next_to next_from next_to next_from (eat_good (λ
 
 literals_taken : IsTaken CommaLiteral CloseText
 literals_taken = record { item = λ v h. h; last = λ h. h; text = sign_token s.Close ∷ []; is = (sign_is s.Close, tt) }
+
+pub literal_list : IsList next_literal
+literal_list = record { item = CommaLiteral; last = CloseText; reads = (next_literal_good ⊥).low; taken = literals_taken }
 
 abbrev pub Literals : Lang Placed (List (LitTree × ℕ))
 Literals = Made first_and (Paired Literal (λ _. Listed CommaLiteral CloseText))

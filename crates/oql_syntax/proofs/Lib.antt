@@ -1,3 +1,8 @@
+pub mod QueryLoops
+pub mod WordLengths
+pub mod LinkLoops
+pub mod ReadingSteps
+pub mod NextSteps
 pub mod QueryExamples
 pub mod QuerySymbols
 pub mod GoesOn
@@ -16,3 +21,4 @@ pub mod GrammarSelects
 pub mod GrammarWhole
 pub mod QueryFaultLaws
 pub mod SelectLaws
+pub mod LoopSteps

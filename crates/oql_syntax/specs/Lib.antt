@@ -1,8 +1,14 @@
 pub mod QueryTrees
+pub mod QueryViews
+pub mod Models
 pub mod Alphabet
+pub mod WordLists
 pub mod Tails
+pub mod Looks
 pub mod QueryParts
 pub mod QueryReaders
+pub mod QueryForms
+pub mod TailViews
 pub mod QueryFaults
 pub mod Grammar
 pub mod Limits

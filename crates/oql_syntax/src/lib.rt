@@ -1,8 +1,15 @@
 //! Queries: their trees, their grammar, the reader of their texts, and the printer.
 #![tactic(auto)]
 
+mod link;
+mod look;
+mod operand;
 mod query;
+mod reading;
 mod word;
 
-pub use query::Sign;
-pub use word::QueryWord;
+pub use query::{
+    BoxedExpr, Chain, Expr, Form, Labels, Lit, LitList, NamedExprs, Query, Ranges, SetChain, Sign,
+    StructList,
+};
+pub use word::{QueryWord, words_of_queries_are_no_names};

@@ -1,8 +1,11 @@
 //! The loads.
 
+use crate::rule_text::push_rule;
 use kola_core::{Memory, Name, Text};
 use kola_database::{Db, ObjectDef, ObjectsRefused};
+use kola_laws::laws;
 use kola_load::{SchemaFault, read_schema};
+use kola_rule::RuleTable;
 use kola_schema::Schema;
 use kola_term::{Fun, MetaCtx, Term, TypeFault, make, out_type};
 use kola_text::{TextFault, print_term, read_term};
@@ -211,4 +214,22 @@ fn text_of_term(alloc: Global, n: u32) -> Result<usize, Memory> {
         text = printed_again(alloc, &text)?;
     }
     Ok(text.len())
+}
+
+fn push_rules(out: &mut Vec<u8>, rules: &RuleTable) -> Result<(), Memory> {
+    for n in 0..rules.len() {
+        if let Some(rule) = rules.get(n) {
+            push_rule(out, rule)?;
+        }
+    }
+    Ok(())
+}
+
+/// The laws, one a line, in a table that is made anew each of n times.
+pub(crate) fn laws_text(alloc: Global, n: u32) -> Result<Vec<u8>, Memory> {
+    let mut out = Vec::new(alloc);
+    for _ in 0..n {
+        push_rules(&mut out, &laws(alloc)?)?;
+    }
+    Ok(out)
 }

@@ -3,6 +3,7 @@ pub mod Instances
 pub mod KindOut
 pub mod Commute
 pub mod RuleTests
+pub mod RuleLaws
 pub mod Occurring
 mod SubstitutionExamples
 mod HoldingExamples

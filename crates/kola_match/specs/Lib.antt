@@ -12,3 +12,4 @@ pub mod Leading
 pub mod Demanding
 pub mod Spotting
 pub mod Instances
+pub mod RuleChecks

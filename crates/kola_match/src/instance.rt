@@ -137,8 +137,11 @@ pub fn match_both(
     ensures { IfOk result (λ o. Decided schema.now (context_of ctx.now) (context_of rule.now.vars)
         (type_tree rule.now.input)
         (type_tree ty.now)
-        ((pattern_side (rule_tree rule.now) rev, sub_tree t1.entry) ∷ (other_side
-        (rule_tree rule.now) rev, sub_tree t2.entry) ∷ [])
+        ((pattern_side (rule_tree rule.now) rev, sub_tree t1.entry) ∷ (
+          other_side
+              (rule_tree rule.now) rev,
+          sub_tree t2.entry,
+        ) ∷ [])
         (option_map found_binds o)) }
 {
     let first = Side {

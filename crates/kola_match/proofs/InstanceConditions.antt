@@ -1,5 +1,5 @@
 -- From what makes a rule well typed to what the search for an instance asks for.
-use Rattle.std.proofs.Common.{◌≡◌, ℕ, Bool, true, false, cond, not, ◌||◌, refl, sym, ap, ◌∙◌, List, [], ◌∷◌, Some, ◌⊎◌, inl, inr}
+use Rattle.std.proofs.Common.{◌≡◌, ◌↔◌, ℕ, Bool, true, false, cond, not, ◌||◌, refl, sym, ap, ◌∙◌, List, [], ◌∷◌, Some, ◌⊎◌, inl, inr}
 use Rattle.std.specs.Str.{bytes_eq}
 use Rattle.kola_core.specs.NameLists.{is_listed}
 use Rattle.kola_values.specs.Types.{TypeTree}
@@ -14,6 +14,7 @@ use Rattle.kola_term.proofs.Introductions.{same_name_itself}
 use Rattle.kola_rule.specs.Rules.{RuleTree}
 use Rattle.kola_match.specs.Occurring.{Occurs}
 use Rattle.kola_match.specs.RuleOk.{RuleOk, SidesFit}
+use Rattle.kola_match.specs.RuleChecks.{OccursOnASide}
 use Rattle.kola_match.specs.Instances.{pattern_side, other_side, AllDeclared}
 use Rattle.kola_match.specs.Spotting.{OccursOn, AllOccurOn}
 
@@ -69,3 +70,10 @@ on_either r false t u v (inr h) = inr (inl h)
 pub occur_on_either : (r : RuleTree) (rev : Bool) (t u : TermTree) (vs : Context) → Each (λ (v : List ℕ × MetaTree). Occurs r.left v ⊎ Occurs r.right v) vs → AllOccurOn ((pattern_side r rev, t) ∷ (other_side r rev, u) ∷ []) vs
 occur_on_either r rev t u [] h = tt
 occur_on_either r rev t u (v ∷ vs) h = (on_either r rev t u v h.0, occur_on_either r rev t u vs h.1)
+
+-- a side twice is one side
+pub either_way : (p : TermTree) (vs : Context) → (Each (OccursOnASide p p) vs ↔ Each (λ (v : List ℕ × MetaTree). Occurs p v) vs)
+either_way p [] = (λ _. tt, λ _. tt)
+either_way p (v ∷ vs) =
+    let r = either_way p vs in
+    (λ h. (elim h.0 [ inl i ↦ i | inr i ↦ i ], r.0 h.1), λ h. (inl h.0, r.1 h.1))

@@ -1,11 +1,12 @@
 //! The instances of a rule at a term.
 
-ghost use Rattle.std.specs.Prelude.{◌≡◌, ◌+◌, ◌-◌, ◌^◌, ◌∷◌, [], ℕ, List, min, IfOk};
+ghost use Rattle.std.specs.Prelude.{◌≡◌, ◌↔◌, ◌+◌, ◌-◌, ◌^◌, ◌∷◌, [], ℕ, List, true, min, IfOk};
 ghost use Rattle.std.specs.Option.{option_map};
 ghost use Rattle.kola_values.specs.Sets.{Each};
 ghost use Rattle.kola_values.specs.Views.{type_tree};
 ghost use Rattle.kola_term.specs.ContextView.{context_of};
 ghost use Rattle.kola_term.specs.Parts.{sub_tree};
+ghost use Rattle.kola_term.specs.TermView.{term_tree};
 ghost use Rattle.kola_term.specs.Places.{Typed};
 ghost use Rattle.kola_term.specs.Typing.{MetaTree};
 ghost use Rattle.kola_rule.specs.RuleViews.{rule_tree};
@@ -17,10 +18,11 @@ ghost use Rattle.kola_match.specs.SubstViews.{found_binds};
 use crate::declared::Side;
 use crate::matched::matched;
 use crate::subst::Subst;
+use crate::well_typed::all_occur;
 use kola_core::Memory;
 use kola_rule::Rule;
 use kola_schema::Schema;
-use kola_term::{MetaCtx, SubTerm};
+use kola_term::{MetaCtx, SubTerm, Term};
 use kola_values::Ty;
 use std::alloc::Global;
 use std::marker::Model;
@@ -62,14 +64,17 @@ impl Tally {
 }
 
 /// The side that is matched: the left one, or the right one where the rule is reversed.
+fn side_of<'a>(rule: &'a Rule, rev: bool) -> &'a Term
+    ensures { term_tree result.now ≡ pattern_side (rule_tree rule.now) rev }
+{
+    if rev { &rule.right } else { &rule.left }
+}
+
+/// The same as a part of itself.
 fn pattern_of<'a>(rule: &'a Rule, rev: bool) -> SubTerm<'a>
     ensures { sub_tree result ≡ pattern_side (rule_tree rule.now) rev }
 {
-    if rev {
-        rule.right.as_part()
-    } else {
-        rule.left.as_part()
-    }
+    side_of(rule, rev).as_part()
 }
 
 /// The other side.
@@ -81,6 +86,16 @@ fn other_of<'a>(rule: &'a Rule, rev: bool) -> SubTerm<'a>
     } else {
         rule.right.as_part()
     }
+}
+
+/// Whether each variable of the rule stands on the side that is matched, as `match_at` asks; with `rev` that is the right one.
+pub fn binds_all_variables(alloc: Global, rule: &Rule, rev: bool) -> Result<bool, Memory>
+    ensures { IfOk result (λ b. (b ≡ true)
+        ↔ Each (λ (v : List ℕ × MetaTree). Occurs (pattern_side (rule_tree rule.now) rev) v) (context_of rule.now.vars)) }
+{
+    let side = side_of(rule, rev);
+    let all = all_occur(alloc, &rule.vars, side, side)?;
+    Ok(all)
 }
 
 /// What an instance of the rule gives for its variables, where the side that is matched gives the term, at its type in

@@ -17,6 +17,6 @@ mod well_typed;
 pub use facts::{
     instances_of_one_term_agree, places_go_with_substitutions, typed_substitutions_keep_types,
 };
-pub use instance::{Tally, match_at, match_both};
+pub use instance::{Tally, binds_all_variables, match_at, match_both};
 pub use subst::{Subst, instantiate};
 pub use well_typed::rule_ok;

@@ -4,7 +4,9 @@
 mod link;
 mod look;
 mod operand;
+mod outside;
 mod query;
+mod read;
 mod reading;
 mod word;
 
@@ -12,4 +14,5 @@ pub use query::{
     BoxedExpr, Chain, Expr, Form, Labels, Lit, LitList, NamedExprs, Query, Ranges, SetChain, Sign,
     StructList,
 };
+pub use read::{QueryFault, QueryWhy, read_query};
 pub use word::{QueryWord, words_of_queries_are_no_names};

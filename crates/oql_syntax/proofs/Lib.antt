@@ -22,3 +22,7 @@ pub mod GrammarWhole
 pub mod QueryFaultLaws
 pub mod SelectLaws
 pub mod LoopSteps
+pub mod RoleLaws
+pub mod WholeQueries
+pub mod NamedSelects
+pub mod QueryAnswerExamples

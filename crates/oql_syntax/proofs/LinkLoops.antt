@@ -1,10 +1,10 @@
 -- What comes of a link of a chain, for the code that reads one.
-use Rattle.std.proofs.Common.{◌≡◌, ℕ, zero, suc, ◌<◌, List, ◌∷◌, Ok, Err, Some, sym, ap, subst, arith}
+use Rattle.std.proofs.Common.{◌≡◌, ℕ, zero, suc, ◌<◌, List, ◌∷◌, Ok, Some, sym, ap, subst, arith}
 use Rattle.kola_base.specs.Placed.{Placed}
 use Rattle.kola_parse.specs.declared.stop.Stop.{Stop}
 use Rattle.kola_parse.specs.declared.stop.Stop.TheVariants.{Memory, Before}
 use Rattle.kola_parse.specs.Given.{Fails}
-use Rattle.kola_parse.specs.Reader.{Answer, ◌>>=◌, fault, Move, Goes, made, done, link_by, link_at}
+use Rattle.kola_parse.specs.Reader.{Answer, ◌>>=◌, Move, Goes, made, done, link_by, link_at}
 use Rattle.oql_syntax.specs.QueryReaders.{Reader}
 
 module _ {A L : Type 0} (f : A → L) (p : Reader A) where

@@ -1,16 +1,15 @@
 -- The loops over the ranges of a select and over the fields of a struct: what one more of them makes of those that are left.
-use Rattle.std.proofs.Common.{◌≡◌, ℕ, zero, suc, ◌-◌, ◌<◌, Bool, List, [], ◌∷◌, ◌++◌, Ok, Err, Some, refl, sym, ap, ◌∙◌, arith}
+use Rattle.std.proofs.Common.{◌≡◌, ℕ, zero, suc, ◌-◌, ◌<◌, List, Ok, Err, Some, refl, sym, ap, ◌∙◌, arith}
 use Rattle.kola_base.specs.Placed.{Placed}
 use Rattle.kola_parse.specs.declared.stop.Stop.{Stop}
 use Rattle.kola_parse.specs.declared.stop.Stop.TheVariants.{Memory, Before}
 use Rattle.kola_parse.specs.declared.why.Why.TheVariants.{Unexpected}
 use Rattle.kola_parse.specs.Given.{Fails}
-use Rattle.kola_parse.specs.Reader.{Answer, ◌>>=◌, fault, done, chain, link_at, Round, Again, Final, on_round, few_rounds, final}
+use Rattle.kola_parse.specs.Reader.{Answer, ◌>>=◌, fault, chain, link_at, Round, Again, Final, on_round, few_rounds, final}
 use Rattle.kola_parse.proofs.Loops.{chain_goes}
 use Rattle.oql_syntax.specs.Alphabet.{kind}
 use Rattle.oql_syntax.specs.Tails.{Tail}
-use Rattle.oql_syntax.specs.QueryTrees.{QueryTree}
-use Rattle.oql_syntax.specs.QueryReaders.{Reader, Tailed, RangeParts, RangesTailed, Next, ARange, ALabel, comma_move, more_ranges, FieldParts, FieldState, FieldRound, field, field_end, add_field}
+use Rattle.oql_syntax.specs.QueryReaders.{Reader, Tailed, RangeParts, RangesTailed, Next, ARange, ALabel, comma_move, more_ranges, FieldState, FieldRound, field, field_end, add_field}
 use Rattle.oql_syntax.specs.TailViews.{ranges_with, tail_with}
 
 more_split : (x : RangesTailed) (c : Next) → more_ranges x c ≡ (ranges_with x.0 c, tail_with c)

@@ -1,16 +1,16 @@
 -- What stands behind a comma in a field of a struct, for the code that reads it: a word and its colon, or else a range.
-use Rattle.std.proofs.Common.{◌≡◌, ℕ, true, false, List, [], ◌∷◌, Option, Ok, Err, Some, None, refl, sym, ap, ◌∙◌}
+use Rattle.std.proofs.Common.{◌≡◌, ℕ, true, false, List, [], ◌∷◌, Option, Ok, Err, Some, None, refl, ap, ◌∙◌}
 use Rattle.kola_base.specs.Alphabets.{word_or, symbol_by}
 use Rattle.kola_base.specs.Lexemes.{Lexeme, LWord, LNumber, LString, LSign}
 use Rattle.kola_base.specs.Named.{Named, name_in, name_of}
 use Rattle.kola_base.specs.Placed.{Placed}
 use Rattle.kola_base.specs.declared.sign.Sign.TheVariants as s
 use Rattle.kola_parse.specs.declared.why.Why.TheVariants.{Unexpected}
-use Rattle.kola_parse.specs.Reader.{Move, Stray, eat_at, other_at, done, fault, ◌>>=◌}
+use Rattle.kola_parse.specs.Reader.{eat_at, other_at, done, fault, ◌>>=◌}
 use Rattle.oql_syntax.specs.Alphabet.{Kind, KSign, KWord, KName, kind, query_word_named}
-use Rattle.oql_syntax.specs.QueryTrees.{QueryTree, QName, QLiteral, LitBool}
+use Rattle.oql_syntax.specs.QueryTrees.{QName, QLiteral, LitBool}
 use Rattle.oql_syntax.specs.QueryForms.{behind_sign, behind_colon, word_form, set_paren, parts_paren, parts_of, word_range}
-use Rattle.oql_syntax.specs.QueryReaders.{Reader, Level, Next, ARange, ALabel, struct_in, flatten_in, some_in, in_move, as_from, range_from, only_label, name_next, set_next, open_next, word_next}
+use Rattle.oql_syntax.specs.QueryReaders.{Reader, Level, Next, ARange, ALabel, in_move, as_from, range_from, only_label, name_next, set_next, open_next, word_next}
 use Rattle.oql_syntax.specs.declared.operand.Parts.{Parts}
 use Rattle.oql_syntax.specs.declared.operand.Parts.TheVariants as parts
 use Rattle.oql_syntax.specs.declared.word.QueryWord.{QueryWord}

@@ -1,5 +1,5 @@
 -- What comes of a reader's parts, for the code that reads them one by one.
-use Rattle.std.proofs.Common.{◌≡◌, ℕ, zero, suc, ◌-◌, Bool, true, false, List, [], ◌∷◌, Option, Result, Ok, Err, Some, None, refl, sym, ap, ◌∙◌}
+use Rattle.std.proofs.Common.{◌≡◌, ℕ, zero, suc, ◌-◌, Bool, true, false, List, [], ◌∷◌, Option, Result, Ok, Err, Some, None, refl, ap, ◌∙◌}
 use Rattle.kola_base.specs.Alphabets.{sign}
 use Rattle.kola_base.specs.Named.{Named}
 use Rattle.kola_base.specs.Placed.{Placed}

@@ -12,3 +12,5 @@ pub mod TailViews
 pub mod QueryFaults
 pub mod Grammar
 pub mod Limits
+pub mod Roles
+pub mod QueryAnswers

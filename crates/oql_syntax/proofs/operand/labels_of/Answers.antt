@@ -1,6 +1,5 @@
-use Rattle.std.proofs.Common.{◌≡◌, [], sym, ◌∙◌, List, ℕ}
-use Rattle.kola_parse.specs.Reader.{chain}
-use Rattle.kola_parse.proofs.Loops.{chain_ends, chain_stops, Fails-along}
+use Rattle.std.proofs.Common.{sym, ◌∙◌}
+use Rattle.kola_parse.proofs.Loops.{chain_ends}
 use Rattle.oql_syntax.specs.Alphabet.{kind}
 use Rattle.oql_syntax.specs.QueryReaders.{label_move, add_label, PathParts}
 use Rattle.oql_syntax.proofs.operand.labels_of.Goals as goal

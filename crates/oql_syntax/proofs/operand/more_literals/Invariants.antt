@@ -1,7 +1,6 @@
-use Rattle.std.proofs.Common.{◌≡◌, length, map, [], ◌∷◌}
-use Rattle.kola_parse.specs.Reader.{made}
+use Rattle.std.proofs.Common.{◌≡◌, length, []}
 use Rattle.kola_parse.specs.Listed.{listed}
-use Rattle.oql_syntax.specs.QueryReaders.{next_literal, literals}
+use Rattle.oql_syntax.specs.QueryReaders.{next_literal}
 use Rattle.oql_syntax.specs.QueryViews.{literal_entries}
 use Rattle.oql_syntax.proofs.operand.more_literals.Given as goal
 

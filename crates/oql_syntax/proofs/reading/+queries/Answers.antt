@@ -2,25 +2,23 @@ use Rattle.kola_base.specs.Named.{Named}
 use Rattle.kola_base.specs.NamedViews.{named_view}
 use Rattle.kola_base.specs.Placed.{Placed}
 use Rattle.kola_parse.proofs.Loops.{Fails-along, chain_ends}
-use Rattle.kola_parse.specs.Given.{Fails}
 use Rattle.kola_parse.specs.Kinds.{ahead}
-use Rattle.kola_parse.specs.Reader.{Again, Answer, Final, Move, done, eat, eat_at, few_rounds, final, other, rounds, then, ◌>>=◌}
+use Rattle.kola_parse.specs.Reader.{Again, Final, Move, done, eat, eat_at, few_rounds, final, rounds, then, ◌>>=◌}
 use Rattle.oql_syntax.proofs.LinkLoops.{link_stops}
 use Rattle.oql_syntax.proofs.LoopSteps.{field_end_stops, field_stops, one_field, range_more, rounds_end, rounds_more, rounds_out, rounds_stop}
 use Rattle.oql_syntax.proofs.NextSteps.{name_same, no_colon}
 use Rattle.oql_syntax.proofs.ReadingSteps.{ahead_goes, as_runs, cmp_ends, cmp_runs, deeper_as, eat_as, exists_led, for_led, gives_along, led_goes, name_is, no_in, no_name, no_select, openor_runs, or_runs, other_led, quantified_ends, quantified_stops, range_runs, runs_stops, select_ends, select_is}
 use Rattle.oql_syntax.specs.Alphabet.{KSign, KWord, Kind, kind}
 use Rattle.oql_syntax.specs.QueryForms.{behind_colon, is_select, kind_name, lead, now, parts_of, parts_paren, word_form, word_range}
-use Rattle.oql_syntax.specs.QueryReaders.{FieldParts, FieldState, Operands, OperandsTailed, RangeRead, RangesTailed, SetOperands, Tailed, add_operand, add_set_operand, and_from, and_move, as_from, at_place, below, cmp_from, comma_move, exists_move, field, first_field, full, full_move, intersect_move, is_word, level, meet_from, more_operands, more_ranges, next, next_move, openand, opennot, opennot_move, openor_from, or_from, or_move, path_by, prim, prim_move, quantified, range_from, range_move, select, some_in, union_move, variable}
+use Rattle.oql_syntax.specs.QueryReaders.{FieldParts, FieldState, Operands, OperandsTailed, RangeRead, RangesTailed, SetOperands, Tailed, add_operand, add_set_operand, and_from, and_move, as_from, at_place, below, comma_move, exists_move, field, first_field, full, full_move, intersect_move, is_word, level, meet_from, more_operands, more_ranges, next, next_move, openand, opennot, opennot_move, openor_from, or_move, path_by, prim, prim_move, quantified, range_from, range_move, select, some_in, union_move, variable}
 use Rattle.oql_syntax.specs.QueryTrees.{QForAll, QName, QueryTree}
 use Rattle.oql_syntax.specs.TailViews.{next_view, quantifier_form, range_view, tail_view}
 use Rattle.oql_syntax.specs.Tails.{Compared}
 use Rattle.oql_syntax.specs.declared.link.WordForm.{WordForm}
-use Rattle.std.proofs.Common.{List, Ok, Option, [], ap, arith, false, subst, sym, true, ℕ, ◌++◌, ◌-◌, ◌<◌, ◌∙◌, ◌∷◌, ◌≡◌}
+use Rattle.std.proofs.Common.{List, Ok, Option, [], ap, arith, sym, true, ℕ, ◌++◌, ◌-◌, ◌∙◌, ◌∷◌}
 use Rattle.std.proofs.lemmas.Result.{err_from_is_err_and}
 use Rattle.std.specs.Option.{option_map}
 use Rattle.oql_syntax.specs.declared.word.QueryWord.TheVariants as words
-use Rattle.kola_base.specs.declared.sign.Sign.TheVariants as s
 use Rattle.oql_syntax.proofs.reading.+queries.Goals as goal
 
 pub opennot_of-returns-in_ok-inner-in-Exists : goal.opennot_of-returns-in_ok-inner-in-Exists

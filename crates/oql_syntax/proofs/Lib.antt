@@ -22,3 +22,5 @@ pub mod GrammarWhole
 pub mod QueryFaultLaws
 pub mod SelectLaws
 pub mod LoopSteps
+pub mod SpellingExamples
+pub mod SpellingLoops

@@ -12,3 +12,4 @@ pub mod TailViews
 pub mod QueryFaults
 pub mod Grammar
 pub mod Limits
+pub mod QuerySpelling

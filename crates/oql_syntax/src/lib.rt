@@ -4,10 +4,12 @@
 mod link;
 mod look;
 mod operand;
+mod print;
 mod query;
 mod reading;
 mod word;
 
+pub use print::print_query;
 pub use query::{
     BoxedExpr, Chain, Expr, Form, Labels, Lit, LitList, NamedExprs, Query, Ranges, SetChain, Sign,
     StructList,

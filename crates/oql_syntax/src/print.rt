@@ -5,7 +5,7 @@ ghost use Rattle.std.specs.List.{flat_map};
 ghost use Rattle.kola_canon.specs.Spelling.{truth};
 ghost use Rattle.oql_syntax.specs.QueryTrees.{of_links, of_set_links, of_fields, of_ranges};
 ghost use Rattle.oql_syntax.specs.QueryViews.{lit_tree, literal_entries, form_tree, query_tree, link_entry, set_link_entry, named_entry, where_of};
-ghost use Rattle.oql_syntax.specs.declared.print.Class.TheVariants.{Sets};
+ghost use Rattle.oql_syntax.specs.declared.print.Class.TheVariants.{Sets, Meet, Prim};
 ghost use Rattle.oql_syntax.specs.QuerySpelling.{class_number, class_of, is_quantifier, takes, literal_spelling, further_literal, literals_spelling, label_spelling, comparison_spelling, union_spelling, spelling, spelling_at, operands_spelling, set_links_spelling, fields_spelling, further_fields, ranges_spelling, further_ranges, where_spelling, query_spelling};
 
 use crate::query::{BoxedExpr, Expr, Form, Lit, Query, Sign};
@@ -181,10 +181,7 @@ fn push_query(out: &mut Vec<u8>, query: &Expr, open_end: bool) -> Result<(), Mem
             push_literals(out, literals.as_slice())?;
             push_bytes(out, b")")
         }
-        Form::Path(e, labels) => {
-            push_part(out, e.get(), Class::Prim, false)?;
-            push_labels(out, labels.as_slice())
-        }
+        Form::Path(e, labels) => push_path(out, e, labels.as_slice()),
         Form::Struct(fields) => {
             push_bytes(out, b"struct(")?;
             push_fields(out, fields.as_slice())?;
@@ -226,23 +223,12 @@ fn push_query(out: &mut Vec<u8>, query: &Expr, open_end: bool) -> Result<(), Mem
                 open_end,
             )
         }
-        Form::UnionExcept(e, links) => {
-            push_part(out, e.get(), Class::Meet, false)?;
-            push_set_links(out, links.as_slice())
-        }
-        Form::Compare(sign, a, b) => {
-            push_part(out, a.get(), Class::Sets, false)?;
-            push_sign(out, *sign)?;
-            push_part(out, b.get(), Class::Sets, false)
-        }
+        Form::UnionExcept(e, links) => push_sets(out, e, links.as_slice()),
+        Form::Compare(sign, a, b) => push_comparison(out, *sign, a, b),
         Form::Exists(x, range, body) => push_quantifier(out, b"exists ", x, range, body),
         Form::ForAll(x, range, body) => push_quantifier(out, b"for all ", x, range, body),
         Form::Select(head, ranges, condition) => {
-            push_bytes(out, b"select distinct ")?;
-            push_query(out, head.get(), true)?;
-            push_bytes(out, b" from ")?;
-            push_ranges(out, ranges.as_slice())?;
-            push_condition(out, condition)
+            push_select(out, head, ranges.as_slice(), condition)
         }
     }
 }
@@ -268,6 +254,30 @@ fn push_inside(out: &mut Vec<u8>, before: &[u8], e: &BoxedExpr) -> Result<(), Me
     push_bytes(out, before)?;
     push_query(out, e.get(), true)?;
     push_bytes(out, b")")
+}
+
+#[cycle(print)]
+fn push_path(out: &mut Vec<u8>, e: &BoxedExpr, labels: &[(Name, usize)]) -> Result<(), Memory>
+    ensures { OnOk result (out.new.items ≡ out.old.items
+        ++ (spelling_at Prim false e.now ++ flat_map label_spelling labels.now)) }
+{
+    push_part(out, e.get(), Class::Prim, false)?;
+    push_labels(out, labels)
+}
+
+#[cycle(print)]
+fn push_comparison(
+    out: &mut Vec<u8>,
+    sign: Sign,
+    a: &BoxedExpr,
+    b: &BoxedExpr,
+) -> Result<(), Memory>
+    ensures { OnOk result (out.new.items ≡ out.old.items
+        ++ (spelling_at Sets false a.now ++ comparison_spelling sign ++ spelling_at Sets false b.now)) }
+{
+    push_part(out, a.get(), Class::Sets, false)?;
+    push_sign(out, sign)?;
+    push_part(out, b.get(), Class::Sets, false)
 }
 
 #[cycle(print)]
@@ -312,6 +322,19 @@ fn push_operands(
 }
 
 #[cycle(print)]
+fn push_sets(
+    out: &mut Vec<u8>,
+    first: &BoxedExpr,
+    links: &[(usize, bool, Expr)],
+) -> Result<(), Memory>
+    ensures { OnOk result (out.new.items ≡ out.old.items
+        ++ (spelling_at Meet false first.now ++ set_links_spelling (of_set_links (map set_link_entry links.now)))) }
+{
+    push_part(out, first.get(), Class::Meet, false)?;
+    push_set_links(out, links)
+}
+
+#[cycle(print)]
 fn push_set_links(out: &mut Vec<u8>, links: &[(usize, bool, Expr)]) -> Result<(), Memory>
     ensures { OnOk result (out.new.items ≡ out.old.items ++ set_links_spelling (of_set_links (map set_link_entry links.now))) }
 {
@@ -345,6 +368,24 @@ fn push_field(out: &mut Vec<u8>, before: &[u8], label: &Name, e: &Expr) -> Resul
     push_name(out, label)?;
     push_bytes(out, b": ")?;
     push_query(out, e, true)
+}
+
+#[cycle(print)]
+fn push_select(
+    out: &mut Vec<u8>,
+    head: &BoxedExpr,
+    ranges: &[(Name, usize, Expr)],
+    condition: &Option<(usize, BoxedExpr)>,
+) -> Result<(), Memory>
+    ensures { OnOk result (out.new.items ≡ out.old.items
+        ++ (codes "select distinct " ++ spelling true head.now ++ codes " from "
+        ++ ranges_spelling (of_ranges (map named_entry ranges.now)) ++ where_spelling (where_of condition.now))) }
+{
+    push_bytes(out, b"select distinct ")?;
+    push_query(out, head.get(), true)?;
+    push_bytes(out, b" from ")?;
+    push_ranges(out, ranges)?;
+    push_condition(out, condition)
 }
 
 #[cycle(print)]

@@ -14,6 +14,18 @@ decreases-push_part l = 4 * weight (query_tree l.e.now) + 1
 abbrev pub decreases-push_inside : goal.decreases-push_inside
 decreases-push_inside l = 4 * weight l.e.now + 1
 
+abbrev pub decreases-push_path : goal.decreases-push_path
+decreases-push_path l = 4 * weight l.e.now + 2
+
+abbrev pub decreases-push_comparison : goal.decreases-push_comparison
+decreases-push_comparison l = 4 * (weight l.a.now + weight l.b.now) + 2
+
+abbrev pub decreases-push_sets : goal.decreases-push_sets
+decreases-push_sets l = 4 * (weight l.first.now + set_links_weight (of_set_links (map set_link_entry l.links.now))) + 2
+
+abbrev pub decreases-push_select : goal.decreases-push_select
+decreases-push_select l = 4 * (weight l.head.now + ranges_weight (of_ranges (map named_entry l.ranges.now)) + where_weight (where_of l.condition.now)) + 3
+
 abbrev pub decreases-push_quantifier : goal.decreases-push_quantifier
 decreases-push_quantifier l = 4 * (weight l.range.now + weight l.body.now) + 3
 
@@ -41,7 +53,7 @@ decreases-push_condition l = 4 * where_weight (where_of l.condition.now)
 abbrev pub invariant-push_operands-loop-next : goal.invariant-push_operands-loop-next
 invariant-push_operands-loop-next l =
     (l.out.items ++ operands_spelling l.fn.class l.fn.word l.fn.open_end (λ o. spelling_at l.fn.class o (query_tree l.last)) (of_links (drop l.next-index (map link_entry l.fn.links)))
-        ≡ l.fn.out.items ++ operands_spelling l.fn.class l.fn.word l.fn.open_end (λ o. spelling_at l.fn.class o (query_tree l.fn.first)) (of_links (map link_entry l.fn.links)))
+    ≡ l.fn.out.items ++ operands_spelling l.fn.class l.fn.word l.fn.open_end (λ o. spelling_at l.fn.class o (query_tree l.fn.first)) (of_links (map link_entry l.fn.links)))
     × (weight (query_tree l.last) + links_weight (of_links (drop l.next-index (map link_entry l.fn.links))) ≤ weight (query_tree l.fn.first) + links_weight (of_links (map link_entry l.fn.links)))
 
 abbrev pub invariant-push_set_links-loop-except : goal.invariant-push_set_links-loop-except

@@ -26,3 +26,5 @@ pub mod RoleLaws
 pub mod WholeQueries
 pub mod NamedSelects
 pub mod QueryAnswerExamples
+pub mod SpellingExamples
+pub mod SpellingLoops

@@ -14,3 +14,4 @@ pub mod Grammar
 pub mod Limits
 pub mod Roles
 pub mod QueryAnswers
+pub mod QuerySpelling

@@ -6,6 +6,7 @@ mod link;
 mod look;
 mod operand;
 mod outside;
+mod print;
 mod query;
 mod read;
 mod reading;
@@ -14,6 +15,7 @@ mod word;
 pub use laws::{
     a_fault_names_a_select_where_distinct_could_follow, a_text_is_one_query_or_has_one_fault,
 };
+pub use print::print_query;
 pub use query::{
     BoxedExpr, Chain, Expr, Form, Labels, Lit, LitList, NamedExprs, Query, Ranges, SetChain, Sign,
     StructList,

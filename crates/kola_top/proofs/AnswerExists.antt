@@ -1,12 +1,12 @@
 -- The words and a job have an answer: each stage refuses or goes on.
-use Rattle.std.proofs.Common.{◌≡◌, ◌⊎◌, ℕ, ◌<◌, ◌≤◌, Bool, true, false, nat_lt, List, length, Option, Some, None, Result, Ok, Err, inl, inr, refl, arith, subst}
+use Rattle.std.proofs.Common.{◌≡◌, ◌⊎◌, ℕ, Bool, true, false, nat_lt, List, length, Option, Some, None, Result, Ok, Err, inl, inr, refl, arith}
 use Rattle.std.proofs.lemmas.Bool.Decides.{nat_tests}
 use Rattle.kola_base.specs.declared.lex.Token.{Token}
 use Rattle.kola_base.specs.declared.lex.LexWhy.{LexWhy}
 use Rattle.kola_base.specs.Tokens.{AreTokens, StopsAt}
 use Rattle.kola_base.specs.Lexemes.{lexemes}
 use Rattle.kola_base.proofs.Total.{tokens_or_fault}
-use Rattle.kola_values.specs.Databases.{Classes, Objects}
+use Rattle.kola_values.specs.Databases.{Classes}
 use Rattle.kola_load.specs.SchemaAccepted.{greatest_nesting, Writes, FaultOf}
 use Rattle.kola_load.specs.Loaded.{HasAnswer}
 use Rattle.kola_load.specs.declared.schema_fault.SchemaWhy.{SchemaWhy}
@@ -20,12 +20,11 @@ use Rattle.kola_top.specs.declared.status.Status.{Status}
 use Rattle.kola_top.specs.Words.{action_of}
 use Rattle.kola_top.specs.Layout.{lines_of}
 use Rattle.kola_top.specs.Scan.{walk, start}
-use Rattle.kola_top.specs.SelectForm.{SelectForm, Says, IsReading}
+use Rattle.kola_top.specs.SelectForm.{SelectForm}
 use Rattle.kola_top.specs.FormReader.{form}
-use Rattle.kola_top.specs.Stages.{greatest_length, text_at, text_in, IsQuery, IsNoQuery, IsQueryReading}
+use Rattle.kola_top.specs.Stages.{greatest_length, text_at, text_in, IsQueryReading}
 use Rattle.kola_top.specs.Answer.{is_memory, Answer}
-use Rattle.kola_top.specs.Staged.{Stage, Then, refused, onward}
-use Rattle.kola_top.specs.StageLine.{at_words, at_length, at_layout, at_place, at_schema, at_query_text, at_query, at_database, Reported, reported, AllTheWay}
+use Rattle.kola_top.specs.StageLine.{at_words, at_length, at_layout, at_place, at_schema, at_query_text, at_query, at_database, reported, AllTheWay}
 use Rattle.kola_top.proofs.Staged.{Some as SomeAnswer, Goes, some_then}
 use Rattle.kola_top.proofs.AnswerLaws.{wholly_answered}
 use Rattle.kola_top.proofs.FoundLaws.{IsLayout, walk_is}

@@ -1,30 +1,24 @@
 -- The words and a job have at most one answer: it is that of a line of stages, of which each refuses in at most one way or accepts one thing.
-use Rattle.std.proofs.Common.{◌≡◌, ℕ, ◌<◌, ◌≤◌, List, length, Option, Some, None, Result, Ok, Err, IfOk, codes, refl, sym, ap, ◌∙◌, subst, arith, IsTrue}
-use Rattle.kola_top.specs.declared.section.Span.{Span}
+use Rattle.std.proofs.Common.{◌≡◌, ℕ, List, Some, None, Result, Ok, Err, refl, sym, ap, ◌∙◌, subst, arith, IsTrue}
 use Rattle.kola_top.specs.declared.section.Sections.{Sections}
-use Rattle.kola_top.specs.declared.layout.LayoutFault.{LayoutFault}
 use Rattle.kola_top.specs.declared.words.Action.{Action}
 use Rattle.kola_top.specs.declared.status.Status.{Status}
-use Rattle.kola_top.specs.declared.status.Status.TheVariants as statuses
 use Rattle.kola_base.specs.Lexemes.{lexemes}
 use Rattle.kola_base.proofs.OneCut.{one_list}
 use Rattle.kola_values.specs.Databases.{Classes, Objects}
 use Rattle.serde_json.specs.Data.{Data}
 use Rattle.kola_load.specs.Loading.{db_of}
 use Rattle.kola_load.specs.Loaded.{Reads}
-use Rattle.kola_load.specs.SchemaAccepted.{greatest_nesting, Writes, FaultOf}
-use Rattle.kola_load.specs.declared.schema_fault.SchemaWhy.{SchemaWhy}
+use Rattle.kola_load.specs.SchemaAccepted.{greatest_nesting}
 use Rattle.kola_load.specs.declared.fault.DbFault.{DbFault}
 use Rattle.kola_load.specs.declared.fault.DbFault.TheVariants.{NotJson, Memory}
 use Rattle.kola_load.proofs.OneSchema.{one_schema, schema_or_fault, one_schema_fault}
 use Rattle.kola_top.specs.Words.{action_of}
-use Rattle.kola_top.specs.Layout.{lines_of, kinds, AreSections, IsFirstFault}
 use Rattle.kola_top.specs.SelectForm.{SelectForm, Says}
-use Rattle.kola_top.specs.Report.{report_text}
-use Rattle.kola_top.specs.FaultLines.{usage_line, too_long_line, layout_fault_line, missing_line, query_fault_line, not_built_line, schema_line, database_line}
+use Rattle.kola_top.specs.FaultLines.{layout_fault_line, query_fault_line, schema_line, database_line}
 use Rattle.kola_top.specs.Runs.{is_written}
-use Rattle.kola_top.specs.Stages.{greatest_length, text_at, text_in, IsQuery, IsNoQuery, IsTaken, IsLaidOut, HasSections, HasSchema, HasQueryText, HasQuery, HasDatabase}
-use Rattle.kola_top.specs.Answer.{IsRefused, Answer, usage, too_long, layout, missing, schema, query_text, query, database, report, report_of_form}
+use Rattle.kola_top.specs.Stages.{text_at, text_in, IsQuery, IsTaken, IsLaidOut, HasSections, HasSchema, HasQueryText, HasQuery}
+use Rattle.kola_top.specs.Answer.{IsRefused, Answer, usage, too_long, layout, missing, schema, query_text, query, database, report}
 use Rattle.kola_top.proofs.FoundLaws.{one_fault, one_layout}
 use Rattle.kola_top.proofs.FormLaws.{one_form}
 use Rattle.kola_top.proofs.QueryTextLaws.{spelled_or_at_fault, one_fault_of_query}

@@ -1,8 +1,7 @@
 -- Each answer to the words and a job has the cause that its status names.
-use Rattle.std.proofs.Common.{ℕ, List, inl, inr}
-use Rattle.kola_top.specs.declared.status.Status.{Status}
-use Rattle.kola_top.specs.Answer.{Answer, usage, too_long, layout, missing, schema, query_text, query, database, report}
-use Rattle.kola_top.specs.Causes.{Cause, AnswersHaveCauses}
+use Rattle.std.proofs.Common.{inl, inr}
+use Rattle.kola_top.specs.Answer.{usage, too_long, layout, missing, schema, query_text, query, database, report}
+use Rattle.kola_top.specs.Causes.{AnswersHaveCauses}
 
 pub answers_have_causes : AnswersHaveCauses
 answers_have_causes words job _ _ (usage e) = e

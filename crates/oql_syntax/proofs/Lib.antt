@@ -24,3 +24,5 @@ pub mod SelectLaws
 pub mod LoopSteps
 pub mod RoleLaws
 pub mod WholeQueries
+pub mod NamedSelects
+pub mod QueryAnswerExamples

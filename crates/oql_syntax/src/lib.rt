@@ -1,6 +1,7 @@
 //! Queries: their trees, their grammar, the reader of their texts, and the printer.
 #![tactic(auto)]
 
+mod laws;
 mod link;
 mod look;
 mod operand;
@@ -10,6 +11,9 @@ mod read;
 mod reading;
 mod word;
 
+pub use laws::{
+    a_fault_names_a_select_where_distinct_could_follow, a_text_is_one_query_or_has_one_fault,
+};
 pub use query::{
     BoxedExpr, Chain, Expr, Form, Labels, Lit, LitList, NamedExprs, Query, Ranges, SetChain, Sign,
     StructList,

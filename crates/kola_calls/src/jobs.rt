@@ -134,7 +134,7 @@ fn each_refusal_has_its_line(rt: HostRuntime) -> Result<(), Fail> {
             "run",
             "%% query\nselect x from x in set(1)",
             Status::Query,
-            not_built,
+            "fault: query at 7: NotInProfile select\n",
         ),
         (
             "run",
@@ -146,7 +146,27 @@ fn each_refusal_has_its_line(rt: HostRuntime) -> Result<(), Fail> {
             "run",
             "%% query\nselect distinct x from x in set(9223372036854775808) where x < 3",
             Status::Query,
-            not_built,
+            "fault: query at 32: NumberTooLarge\n",
+        ),
+        (
+            "run",
+            "%% query\nselect distinct x from x in set(1) where x <",
+            Status::Query,
+            "fault: query at 44: Unexpected\n",
+        ),
+        (
+            "run",
+            "%% query\nselect distinct Count from x in set(1)",
+            Status::Query,
+            "fault: query at 16: NotInProfile Count\n",
+        ),
+        (
+            "run",
+            "%% query\n\
+             ((((((((((((((((((((((((((((((((((((((((((((((((((((((((((((\
+             (((((((((((((((((((((((((((((((((((((((((1",
+            Status::Query,
+            "fault: query at 100: TooDeep\n",
         ),
     ] {
         let (status, sink) = answered(alloc, action, job.as_bytes().to_vec(alloc)?)?;

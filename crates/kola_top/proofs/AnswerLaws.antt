@@ -1,34 +1,29 @@
 -- The words and a job have at most one answer: it is that of a line of stages, of which each refuses in at most one way or accepts one thing.
-use Rattle.std.proofs.Common.{◌≡◌, ℕ, ◌<◌, ◌≤◌, List, length, Option, Some, None, Result, Ok, Err, IfOk, codes, refl, sym, ap, ◌∙◌, subst, arith, IsTrue}
-use Rattle.kola_top.specs.declared.section.Span.{Span}
+use Rattle.std.proofs.Common.{◌≡◌, ℕ, List, Some, None, Result, Ok, Err, refl, sym, ap, ◌∙◌, subst, arith, IsTrue}
 use Rattle.kola_top.specs.declared.section.Sections.{Sections}
-use Rattle.kola_top.specs.declared.layout.LayoutFault.{LayoutFault}
 use Rattle.kola_top.specs.declared.words.Action.{Action}
 use Rattle.kola_top.specs.declared.status.Status.{Status}
-use Rattle.kola_top.specs.declared.status.Status.TheVariants as statuses
 use Rattle.kola_base.specs.Lexemes.{lexemes}
 use Rattle.kola_base.proofs.OneCut.{one_list}
 use Rattle.kola_values.specs.Databases.{Classes, Objects}
 use Rattle.serde_json.specs.Data.{Data}
 use Rattle.kola_load.specs.Loading.{db_of}
 use Rattle.kola_load.specs.Loaded.{Reads}
-use Rattle.kola_load.specs.SchemaAccepted.{greatest_nesting, Writes, FaultOf}
-use Rattle.kola_load.specs.declared.schema_fault.SchemaWhy.{SchemaWhy}
+use Rattle.kola_load.specs.SchemaAccepted.{greatest_nesting}
 use Rattle.kola_load.specs.declared.fault.DbFault.{DbFault}
 use Rattle.kola_load.specs.declared.fault.DbFault.TheVariants.{NotJson, Memory}
 use Rattle.kola_load.proofs.OneSchema.{one_schema, schema_or_fault, one_schema_fault}
 use Rattle.kola_top.specs.Words.{action_of}
-use Rattle.kola_top.specs.Layout.{lines_of, kinds, AreSections, IsFirstFault}
 use Rattle.kola_top.specs.SelectForm.{SelectForm, Says}
-use Rattle.kola_top.specs.Report.{report_text}
-use Rattle.kola_top.specs.FaultLines.{usage_line, too_long_line, layout_fault_line, missing_line, not_built_line, schema_line, database_line}
+use Rattle.kola_top.specs.FaultLines.{layout_fault_line, query_fault_line, schema_line, database_line}
 use Rattle.kola_top.specs.Runs.{is_written}
-use Rattle.kola_top.specs.Stages.{greatest_length, text_at, text_in, IsQuery, IsNoQuery, IsTaken, IsLaidOut, HasSections, HasSchema, HasQuery, HasDatabase}
-use Rattle.kola_top.specs.Answer.{IsRefused, Answer, usage, too_long, layout, missing, schema, query, database, report, report_of_form}
+use Rattle.kola_top.specs.Stages.{text_at, text_in, IsQuery, IsTaken, IsLaidOut, HasSections, HasSchema, HasQueryText, HasQuery}
+use Rattle.kola_top.specs.Answer.{IsRefused, Answer, usage, too_long, layout, missing, schema, query_text, query, database, report}
 use Rattle.kola_top.proofs.FoundLaws.{one_fault, one_layout}
 use Rattle.kola_top.proofs.FormLaws.{one_form}
+use Rattle.kola_top.proofs.QueryTextLaws.{spelled_or_at_fault, one_fault_of_query}
 use Rattle.kola_top.specs.Staged.{Then, refused, onward}
-use Rattle.kola_top.specs.StageLine.{at_words, at_length, at_layout, at_place, at_schema, at_query, at_database, Reported, reported, FromDatabase, FromQuery, FromSchema, FromPlace, OnItsWay, AllTheWay}
+use Rattle.kola_top.specs.StageLine.{at_words, at_length, at_layout, at_place, at_schema, at_query_text, at_query, at_database, Reported, reported, FromDatabase, FromQuery, FromQueryText, FromSchema, FromPlace, OnItsWay, AllTheWay}
 use Rattle.kola_top.proofs.Staged.{One, IsOne, one_then}
 
 one_query : (text : List ℕ) (f g : SelectForm) → IsQuery text f → IsQuery text g → f ≡ g
@@ -81,15 +76,18 @@ module _ (words : List (List ℕ)) (job : List ℕ) where
   staged _ _ (schema at why s h) =
       let l = s.before in let t = l.before in
       onward t.action _ _ t.command (onward tt _ _ t.is_short (onward l.found _ _ l.sections (onward s.place _ _ s.query (refused (at, why) h))))
-  staged _ _ (query c h) =
+  staged _ _ (query_text at cause c h) =
       let s = c.before in let l = s.before in let t = l.before in
-      onward t.action _ _ t.command (onward tt _ _ t.is_short (onward l.found _ _ l.sections (onward s.place _ _ s.query (onward c.classes _ _ c.writes (refused tt h)))))
+      onward t.action _ _ t.command (onward tt _ _ t.is_short (onward l.found _ _ l.sections (onward s.place _ _ s.query (onward c.classes _ _ c.writes (refused (at, cause) h)))))
+  staged _ _ (query w h) =
+      let c = w.before in let s = c.before in let l = s.before in let t = l.before in
+      onward t.action _ _ t.command (onward tt _ _ t.is_short (onward l.found _ _ l.sections (onward s.place _ _ s.query (onward c.classes _ _ c.writes (onward tt _ _ (w.query, w.spells) (refused tt h))))))
   staged _ _ (database e q h) =
-      let c = q.before in let s = c.before in let l = s.before in let t = l.before in
-      onward t.action _ _ t.command (onward tt _ _ t.is_short (onward l.found _ _ l.sections (onward s.place _ _ s.query (onward c.classes _ _ c.writes (onward q.form _ _ q.is (refused e h))))))
+      let w = q.before in let c = w.before in let s = c.before in let l = s.before in let t = l.before in
+      onward t.action _ _ t.command (onward tt _ _ t.is_short (onward l.found _ _ l.sections (onward s.place _ _ s.query (onward c.classes _ _ c.writes (onward tt _ _ (w.query, w.spells) (onward q.form _ _ q.is (refused e h)))))))
   staged _ _ (report d) =
-      let q = d.before in let c = q.before in let s = c.before in let l = s.before in let t = l.before in
-      onward t.action _ _ t.command (onward tt _ _ t.is_short (onward l.found _ _ l.sections (onward s.place _ _ s.query (onward c.classes _ _ c.writes (onward q.form _ _ q.is (onward tt _ _ (d.value, d.objects, d.reads, d.writes) reported))))))
+      let q = d.before in let w = q.before in let c = w.before in let s = c.before in let l = s.before in let t = l.before in
+      onward t.action _ _ t.command (onward tt _ _ t.is_short (onward l.found _ _ l.sections (onward s.place _ _ s.query (onward c.classes _ _ c.writes (onward tt _ _ (w.query, w.spells) (onward q.form _ _ q.is (onward tt _ _ (d.value, d.objects, d.reads, d.writes) reported)))))))
 
   -- ---- each stage refuses in at most one way or accepts one thing
 
@@ -116,6 +114,13 @@ module _ (words : List (List ℕ)) (job : List ℕ) where
     not_both = λ e x p q. schema_or_fault greatest_nesting text x e.0 e.1 q p;
   }
 
+  one_spelled : (text : List ℕ) → IsOne (at_query_text text)
+  one_spelled text = record {
+    one_refusal = λ e f p q. let same = one_fault_of_query text e.0 f.0 e.1 f.1 p q in (refl, ap (λ n. query_fault_line n e.1) same.0 ∙ ap (query_fault_line f.0) same.1);
+    one_thing = λ _ _ _ _. refl;
+    not_both = λ e _ p q. spelled_or_at_fault text q.0 e.0 e.1 q.1 p;
+  }
+
   one_select : (text : List ℕ) → IsOne (at_query text)
   one_select text = record { one_refusal = λ _ _ _ _. (refl, refl); one_thing = λ x y h k. one_query text x y h k; not_both = λ _ x h k. h x k }
 
@@ -132,24 +137,28 @@ module _ (words : List (List ℕ)) (job : List ℕ) where
   one_staged : One (AllTheWay words job)
   one_staged =
       one_then (at_words words) _ one_words (λ _ _. one_then (at_length job) _ one_length (λ _ _. one_then (at_layout job) _ one_lay_out (λ found _. one_then (at_place found) _ (one_place found) (λ p _.
-      one_then (at_schema (text_in job found.schema)) _ (one_classes (text_in job found.schema)) (λ S _. one_then (at_query (text_at job p)) _ (one_select (text_at job p)) (λ f _.
-      one_then (at_database S (text_in job found.database)) _ (one_objects S (text_in job found.database)) (λ _ _. one_report f)))))))
+      one_then (at_schema (text_in job found.schema)) _ (one_classes (text_in job found.schema)) (λ S _. one_then (at_query_text (text_at job p)) _ (one_spelled (text_at job p)) (λ _ _. one_then (at_query (text_at job p)) _ (one_select (text_at job p)) (λ f _.
+      one_then (at_database S (text_in job found.database)) _ (one_objects S (text_in job found.database)) (λ _ _. one_report f))))))))
 
   pub one_answer : One (Answer words job)
   one_answer s t b c x y = one_staged s t b c (staged s b x) (staged t c y)
 
   -- the line of stages says nothing else
-  from_database : (q : HasQuery words job) (s : Status) (b : List ℕ) → FromDatabase job q.before.before.before.found q.before.classes q.form s b → Answer words job s b
+  from_database : (q : HasQuery words job) (s : Status) (b : List ℕ) → FromDatabase job q.before.before.before.before.found q.before.before.classes q.form s b → Answer words job s b
   from_database q _ _ (refused e h) = database e q h
   from_database q _ _ (onward _ _ _ d reported) = report (record { before = q; value = d.0; objects = d.1; reads = d.2; writes = d.3 })
 
-  from_query : (c : HasSchema words job) (s : Status) (b : List ℕ) → FromQuery job c.before.before.found c.before.place c.classes s b → Answer words job s b
-  from_query c _ _ (refused _ h) = query c h
-  from_query c _ _ (onward f s b i k) = from_database (record { before = c; form = f; is = i }) s b k
+  from_query : (w : HasQueryText words job) (s : Status) (b : List ℕ) → FromQuery job w.before.before.before.found w.before.before.place w.before.classes s b → Answer words job s b
+  from_query w _ _ (refused _ h) = query w h
+  from_query w _ _ (onward f s b i k) = from_database (record { before = w; form = f; is = i }) s b k
+
+  from_query_text : (c : HasSchema words job) (s : Status) (b : List ℕ) → FromQueryText job c.before.before.found c.before.place c.classes s b → Answer words job s b
+  from_query_text c _ _ (refused f h) = query_text f.0 f.1 c h
+  from_query_text c _ _ (onward _ s b q k) = from_query (record { before = c; query = q.0; spells = q.1 }) s b k
 
   from_schema : (l : HasSections words job) (s : Status) (b : List ℕ) → FromSchema job l.before.found l.place s b → Answer words job s b
   from_schema l _ _ (refused f h) = schema f.0 f.1 l h
-  from_schema l _ _ (onward S s b w k) = from_query (record { before = l; classes = S; writes = w }) s b k
+  from_schema l _ _ (onward S s b w k) = from_query_text (record { before = l; classes = S; writes = w }) s b k
 
   from_place : (l : IsLaidOut words job) (s : Status) (b : List ℕ) → FromPlace job l.found s b → Answer words job s b
   from_place l _ _ (refused _ h) = missing l h
@@ -174,6 +183,7 @@ module _ (words : List (List ℕ)) (job : List ℕ) where
   answers_are_written _ _ (layout f s h) = refl
   answers_are_written _ _ (missing s h) = refl
   answers_are_written _ _ (schema at why s h) = refl
-  answers_are_written _ _ (query c h) = refl
+  answers_are_written _ _ (query_text at cause c h) = refl
+  answers_are_written _ _ (query w h) = refl
   answers_are_written _ _ (database e q h) = refl
   answers_are_written _ _ (report d) = refl

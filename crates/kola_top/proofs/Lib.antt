@@ -14,6 +14,7 @@ pub mod PlaceLaws
 mod ReportLaws
 mod LexemeLoop
 mod QueryReading
+mod QueryTextLaws
 mod Examples
 mod QueryExamples
 mod SelectLaws

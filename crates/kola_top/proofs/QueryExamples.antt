@@ -13,7 +13,9 @@ use Rattle.kola_base.specs.Lexemes.{LWord, LNumber, LSign}
 use Rattle.kola_base.specs.QueryWords.{is_name, is_among}
 use Rattle.kola_top.specs.SelectForm.{SelectForm, spelled}
 use Rattle.kola_top.specs.SelectMeaning.{value_of_form, translation, visits_of_form}
-use Rattle.kola_top.specs.FaultLines.{layout_fault_line, missing_line, not_built_line}
+use Rattle.kola_base.specs.declared.lex.LexWhy.TheVariants.{NumberTooLarge}
+use Rattle.oql_syntax.specs.QueryFaults.{CLex, CUnexpected, CTooDeep, CNotInProfile}
+use Rattle.kola_top.specs.FaultLines.{layout_fault_line, missing_line, query_fault_line, not_built_line}
 use Rattle.kola_top.specs.Report.{report_text}
 use Rattle.kola_top.specs.Answer.{report_of_form}
 
@@ -78,3 +80,19 @@ missing_query = refl
 not_built : not_built_line ≡ codes "fault: query at 0: NotBuilt\n"
 unfolding digits
 not_built = refl
+
+lexical_fault : query_fault_line 32 (CLex NumberTooLarge) ≡ codes "fault: query at 32: NumberTooLarge\n"
+unfolding digits
+lexical_fault = refl
+
+unexpected : query_fault_line 44 CUnexpected ≡ codes "fault: query at 44: Unexpected\n"
+unfolding digits
+unexpected = refl
+
+too_deep : query_fault_line 100 CTooDeep ≡ codes "fault: query at 100: TooDeep\n"
+unfolding digits
+too_deep = refl
+
+not_in_profile : query_fault_line 41 (CNotInProfile (codes "ORDER")) ≡ codes "fault: query at 41: NotInProfile ORDER\n"
+unfolding digits
+not_in_profile = refl

@@ -9,7 +9,7 @@ use Rattle.kola_top.specs.declared.status.Status.TheVariants as statuses
 use Rattle.kola_top.specs.Words.{action_of}
 use Rattle.kola_top.specs.FaultLines.{usage_line, too_long_line}
 use Rattle.kola_top.specs.Stages.{greatest_length}
-use Rattle.kola_top.specs.Answer.{Answer, usage, too_long, layout, missing, schema, query, database, report}
+use Rattle.kola_top.specs.Answer.{Answer, usage, too_long, layout, missing, schema, query_text, query, database, report}
 use Rattle.kola_top.specs.Runs.{Tells, Wrote, Completes, Sent, whole, front, is_written}
 use Rattle.kola_top.proofs.AnswerLaws.{one_answer}
 
@@ -52,6 +52,7 @@ answer_usage words job _ _ (too_long a d h) u = cc
 answer_usage words job _ _ (layout f t h) u = cc
 answer_usage words job _ _ (missing l h) u = cc
 answer_usage words job _ _ (schema at why l h) u = cc
+answer_usage words job _ _ (query_text at cause c h) u = cc
 answer_usage words job _ _ (query c h) u = cc
 answer_usage words job _ _ (database e q h) u = cc
 answer_usage words job _ _ (report d) u = cc

@@ -1,22 +1,26 @@
 -- From what each stage answers to the answer of the line.
 use Rattle.std.proofs.Common.{◌≡◌, ℕ, List, true, Result, Ok, Err, refl, sym, subst}
 use Rattle.kola_top.specs.declared.refusal.Refusal.{Refusal}
-use Rattle.kola_top.specs.declared.refusal.Refusal.TheVariants.{Layout, NoQuery, Schema, NotBuilt, Database, Memory}
+use Rattle.kola_top.specs.declared.refusal.Refusal.TheVariants.{Layout, NoQuery, Schema, Query, NotBuilt, Database, Memory}
 use Rattle.kola_top.specs.declared.status.Status.{Status}
 use Rattle.kola_top.specs.Staged.{Says, Stage, Then, refused, onward}
-use Rattle.kola_top.specs.StageLine.{at_schema}
-use Rattle.kola_top.specs.Refusals.{of_schema, is_told, status_of, line_of, Refuses, Replies, IsOf, Passes}
+use Rattle.kola_top.specs.StageLine.{at_schema, at_query_text}
+use Rattle.kola_top.specs.Refusals.{of_schema, of_query, is_told, status_of, line_of, Refuses, Replies, IsOf, Passes}
 use Rattle.std.specs.Result.{IsErrAnd}
 use Rattle.kola_load.specs.SchemaAccepted.{greatest_nesting, IsFault}
 use Rattle.kola_load.specs.declared.schema_fault.SchemaFault.{SchemaFault}
 use Rattle.kola_load.specs.declared.schema_fault.SchemaFault.TheVariants.{At}
 use Rattle.kola_load.specs.declared.schema_fault.SchemaFault.TheVariants as fault
+use Rattle.oql_syntax.specs.QueryAnswers.{IsQueryRefusal, why_cause, fault_refusal}
+use Rattle.oql_syntax.specs.declared.read.QueryFault.{QueryFault}
+use Rattle.oql_syntax.specs.declared.read.QueryFault.TheVariants as query
 
 -- what is said of one is said of the other
 pub refuses_too : (A B : Says) → ((s : Status) (b : List ℕ) → A s b → B s b) → (r : Refusal) → Refuses A r → Refuses B r
 refuses_too A B f (Layout x) h = f _ _ h
 refuses_too A B f (NoQuery x) h = f _ _ h
 refuses_too A B f (Schema x y) h = f _ _ h
+refuses_too A B f (Query x y) h = f _ _ h
 refuses_too A B f NotBuilt h = f _ _ h
 refuses_too A B f (Database x) h = f _ _ h
 refuses_too A B f Memory h = tt
@@ -49,11 +53,16 @@ pub schema_refused : (text : List ℕ) (f : SchemaFault) → IsFault greatest_ne
 schema_refused text (At at why) h = ((at, why), h, refl, refl)
 schema_refused text fault.Memory h = tt
 
+pub query_refused : (text : List ℕ) (f : QueryFault) → IsQueryRefusal text (fault_refusal f) → Refuses (IsOf (at_query_text text)) (of_query f)
+query_refused text (query.At at why) h = ((at, why_cause why), h, refl, refl)
+query_refused text query.Memory h = tt
+
 -- a refusal that is told says its answer
 pub told_refuses : (A : Says) (r : Refusal) → is_told r ≡ true → Refuses A r → A (status_of r) (line_of r)
 told_refuses A (Layout x) t h = h
 told_refuses A (NoQuery x) t h = h
 told_refuses A (Schema x y) t h = h
+told_refuses A (Query x y) t h = h
 told_refuses A NotBuilt t h = h
 told_refuses A (Database x) t h = h
 told_refuses A Memory t h = cc

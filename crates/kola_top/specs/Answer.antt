@@ -16,9 +16,11 @@ use Rattle.kola_load.specs.SchemaAccepted.{greatest_nesting, FaultOf}
 use Rattle.kola_load.specs.declared.schema_fault.SchemaWhy.{SchemaWhy}
 use Rattle.kola_load.specs.declared.fault.DbFault.{DbFault}
 use Rattle.kola_load.specs.declared.fault.DbFault.TheVariants.{Memory}
+use Rattle.oql_syntax.specs.QueryAnswers.{IsQueryFault}
+use Rattle.oql_syntax.specs.QueryFaults.{QueryCause}
 use Rattle.kola_top.specs.Report.{Report, report_text}
-use Rattle.kola_top.specs.FaultLines.{usage_line, too_long_line, layout_fault_line, missing_line, not_built_line, schema_line, database_line}
-use Rattle.kola_top.specs.Stages.{greatest_length, text_at, text_in, IsNoQuery, IsTaken, IsLaidOut, HasSections, HasSchema, HasQuery, HasDatabase}
+use Rattle.kola_top.specs.FaultLines.{usage_line, too_long_line, layout_fault_line, missing_line, query_fault_line, not_built_line, schema_line, database_line}
+use Rattle.kola_top.specs.Stages.{greatest_length, text_at, text_in, IsNoQuery, IsTaken, IsLaidOut, HasSections, HasSchema, HasQueryText, HasQuery, HasDatabase}
 
 -- what `run` reports where no block is named: the one step that is taken changes nothing
 abbrev pub unchanged_report : List ℕ → ℕ → List ℕ → Report
@@ -51,6 +53,7 @@ pub data Answer (words : List (List ℕ)) (job : List ℕ) : Status → List ℕ
   layout : (fault : LayoutFault) → IsTaken words job → IsFirstFault (kinds (lines_of job)) fault → Answer words job statuses.Layout (layout_fault_line fault)
   missing : (s : IsLaidOut words job) → s.found.query ≡ None → Answer words job statuses.Layout (missing_line (s.found.lines + 1) (codes "query"))
   schema : (at : ℕ) (why : SchemaWhy) (s : HasSections words job) → FaultOf greatest_nesting (text_in job s.before.found.schema) at why → Answer words job statuses.Schema (schema_line at why)
-  query : (s : HasSchema words job) → IsNoQuery (text_at job s.before.place) → Answer words job statuses.Query not_built_line
-  database : (e : DbFault) (s : HasQuery words job) → IsRefused s.before.classes (text_in job s.before.before.before.found.database) e → Answer words job statuses.Database (database_line e)
+  query_text : (at : ℕ) (cause : QueryCause) (s : HasSchema words job) → IsQueryFault (text_at job s.before.place) at cause → Answer words job statuses.Query (query_fault_line at cause)
+  query : (s : HasQueryText words job) → IsNoQuery (text_at job s.before.before.place) → Answer words job statuses.Query not_built_line
+  database : (e : DbFault) (s : HasQuery words job) → IsRefused s.before.before.classes (text_in job s.before.before.before.before.found.database) e → Answer words job statuses.Database (database_line e)
   report : (s : HasDatabase words job) → Answer words job statuses.Ok (report_text (report_of_form s.before.form))

@@ -9,7 +9,9 @@ use Rattle.kola_top.specs.Layout.{lines_of, kinds, IsFirstFault}
 use Rattle.kola_load.specs.SchemaAccepted.{greatest_nesting, FaultOf}
 use Rattle.kola_load.specs.declared.schema_fault.SchemaWhy.{SchemaWhy}
 use Rattle.kola_load.specs.declared.fault.DbFault.{DbFault}
-use Rattle.kola_top.specs.Stages.{greatest_length, text_at, text_in, IsNoQuery, IsTaken, IsLaidOut, HasSections, HasSchema, HasQuery}
+use Rattle.kola_top.specs.Stages.{greatest_length, text_at, text_in, IsNoQuery, IsTaken, IsLaidOut, HasSections, HasSchema, HasQueryText, HasQuery}
+use Rattle.oql_syntax.specs.QueryAnswers.{IsQueryFault}
+use Rattle.oql_syntax.specs.QueryFaults.{QueryCause}
 use Rattle.kola_top.specs.Answer.{Answer, IsRefused}
 
 -- what a status says of the words and a job: which refusal it is, and that its cause holds and no earlier one does
@@ -18,8 +20,8 @@ Cause words job statuses.Usage = action_of words ≡ None
 Cause words job statuses.TooLong = (a : Action) × (action_of words ≡ Some a) × (greatest_length < length job)
 Cause words job statuses.Layout = (IsTaken words job × ((fault : LayoutFault) × IsFirstFault (kinds (lines_of job)) fault)) ⊎ ((s : IsLaidOut words job) × (s.found.query ≡ None))
 Cause words job statuses.Schema = (s : HasSections words job) × ((at : ℕ) × (why : SchemaWhy) × FaultOf greatest_nesting (text_in job s.before.found.schema) at why)
-Cause words job statuses.Query = (s : HasSchema words job) × IsNoQuery (text_at job s.before.place)
-Cause words job statuses.Database = (s : HasQuery words job) × ((e : DbFault) × IsRefused s.before.classes (text_in job s.before.before.before.found.database) e)
+Cause words job statuses.Query = ((s : HasSchema words job) × ((at : ℕ) × (cause : QueryCause) × IsQueryFault (text_at job s.before.place) at cause)) ⊎ ((s : HasQueryText words job) × IsNoQuery (text_at job s.before.before.place))
+Cause words job statuses.Database = (s : HasQuery words job) × ((e : DbFault) × IsRefused s.before.before.classes (text_in job s.before.before.before.before.found.database) e)
 Cause words job statuses.Ok = HasQuery words job
 Cause words job _ = ⊥
 

@@ -6,6 +6,8 @@ use Rattle.kola_load.specs.declared.fault.DbFault.{DbFault}
 use Rattle.kola_load.specs.declared.fault.DbFault.TheVariants as db
 use Rattle.kola_load.specs.declared.schema_fault.SchemaWhy.{SchemaWhy}
 use Rattle.kola_load.specs.CauseNames.{schema_name, db_name}
+use Rattle.oql_syntax.specs.QueryFaults.{QueryCause, CNotInProfile}
+use Rattle.oql_syntax.specs.QueryAnswers.{cause_name}
 use Rattle.kola_top.specs.declared.layout.LayoutFault.{LayoutFault}
 use Rattle.kola_top.specs.declared.layout.LayoutWhy.{LayoutWhy}
 use Rattle.kola_top.specs.declared.layout.LayoutWhy.TheVariants.{TextBefore, UnknownSection, SectionOutOfOrder}
@@ -32,20 +34,7 @@ layout_fault_line fault = layout_line fault.line (layout_cause fault.why)
 abbrev pub missing_line : ℕ → List ℕ → List ℕ
 missing_line line section = layout_line line (codes "SectionMissing " ++ section)
 
--- the place in the query's text, and the cause
-abbrev pub query_line : ℕ → List ℕ → List ℕ
-query_line at cause = codes "fault: query at " ++ (decimal at ++ (codes ": " ++ (cause ++ codes "\n")))
-
-abbrev pub not_built_line : List ℕ
-not_built_line = query_line 0 (codes "NotBuilt")
-
--- ---- schemas
-
--- the place in the schema's text, and the cause
-abbrev pub schema_line : ℕ → SchemaWhy → List ℕ
-schema_line at why = codes "fault: schema at " ++ (decimal at ++ (codes ": " ++ (schema_name why ++ codes "\n")))
-
--- ---- databases
+-- ---- fields
 
 abbrev pub name_field : List ℕ → List ℕ
 name_field n = codes " " ++ n
@@ -56,6 +45,32 @@ text_field t = codes " " ++ quoted t
 
 abbrev pub number_field : ℕ → List ℕ
 number_field n = codes " " ++ decimal n
+
+-- ---- schemas
+
+-- the place in the schema's text, and the cause
+abbrev pub schema_line : ℕ → SchemaWhy → List ℕ
+schema_line at why = codes "fault: schema at " ++ (decimal at ++ (codes ": " ++ (schema_name why ++ codes "\n")))
+
+-- ---- queries
+
+-- the place in the query's text, and the cause
+abbrev pub query_line : ℕ → List ℕ → List ℕ
+query_line at cause = codes "fault: query at " ++ (decimal at ++ (codes ": " ++ (cause ++ codes "\n")))
+
+abbrev pub query_cause : QueryCause → List ℕ
+query_cause (CNotInProfile word) = cause_name (CNotInProfile word) ++ name_field word
+query_cause cause = cause_name cause
+
+-- a text that spells no query
+abbrev pub query_fault_line : ℕ → QueryCause → List ℕ
+query_fault_line at cause = query_line at (query_cause cause)
+
+-- a query that is none of the form
+abbrev pub not_built_line : List ℕ
+not_built_line = query_line 0 (codes "NotBuilt")
+
+-- ---- databases
 
 -- a class or extent and a number
 abbrev pub at_number : List ℕ → ℕ → List ℕ

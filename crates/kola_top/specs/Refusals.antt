@@ -4,16 +4,23 @@ use Rattle.kola_load.specs.declared.schema_fault.SchemaFault.{SchemaFault}
 use Rattle.kola_load.specs.declared.schema_fault.SchemaFault.TheVariants as schema
 use Rattle.kola_load.specs.declared.fault.DbFault.{DbFault}
 use Rattle.kola_load.specs.declared.fault.DbFault.TheVariants as db
+use Rattle.oql_syntax.specs.QueryAnswers.{why_cause}
+use Rattle.oql_syntax.specs.declared.read.QueryFault.{QueryFault}
+use Rattle.oql_syntax.specs.declared.read.QueryFault.TheVariants as query
 use Rattle.kola_top.specs.declared.refusal.Refusal.{Refusal}
-use Rattle.kola_top.specs.declared.refusal.Refusal.TheVariants.{Layout, NoQuery, Schema, NotBuilt, Database, Memory}
+use Rattle.kola_top.specs.declared.refusal.Refusal.TheVariants.{Layout, NoQuery, Schema, Query, NotBuilt, Database, Memory}
 use Rattle.kola_top.specs.declared.status.Status.{Status}
 use Rattle.kola_top.specs.declared.status.Status.TheVariants as statuses
-use Rattle.kola_top.specs.FaultLines.{layout_fault_line, missing_line, not_built_line, schema_line, database_line}
+use Rattle.kola_top.specs.FaultLines.{layout_fault_line, missing_line, query_fault_line, not_built_line, schema_line, database_line}
 use Rattle.kola_top.specs.Staged.{Says, Stage}
 
 abbrev pub of_schema : SchemaFault → Refusal
 of_schema (schema.At at why) = Schema at why
 of_schema schema.Memory = Memory
+
+abbrev pub of_query : QueryFault → Refusal
+of_query (query.At at why) = Query at why
+of_query query.Memory = Memory
 
 abbrev pub of_database : DbFault → Refusal
 of_database db.Memory = Memory
@@ -28,6 +35,7 @@ abbrev pub status_of : Refusal → Status
 status_of (Layout f) = statuses.Layout
 status_of (NoQuery line) = statuses.Layout
 status_of (Schema at why) = statuses.Schema
+status_of (Query at why) = statuses.Query
 status_of NotBuilt = statuses.Query
 status_of (Database f) = statuses.Database
 status_of Memory = statuses.Memory
@@ -36,6 +44,7 @@ abbrev pub line_of : Refusal → List ℕ
 line_of (Layout f) = layout_fault_line f
 line_of (NoQuery line) = missing_line line (codes "query")
 line_of (Schema at why) = schema_line at why
+line_of (Query at why) = query_fault_line at (why_cause why)
 line_of NotBuilt = not_built_line
 line_of (Database f) = database_line f
 line_of Memory = codes ""

@@ -16,8 +16,11 @@ use Rattle.kola_load.specs.declared.fault.DbFault.{DbFault}
 use Rattle.kola_top.specs.Words.{action_of}
 use Rattle.kola_top.specs.Layout.{lines_of, kinds, AreSections, IsFirstFault}
 use Rattle.kola_top.specs.SelectForm.{SelectForm}
+use Rattle.oql_syntax.specs.QueryAnswers.{SpellsQuery, IsQueryFault}
+use Rattle.oql_syntax.specs.QueryFaults.{QueryCause}
+use Rattle.oql_syntax.specs.QueryTrees.{QueryTree}
 use Rattle.kola_top.specs.Report.{report_text}
-use Rattle.kola_top.specs.FaultLines.{usage_line, too_long_line, layout_fault_line, missing_line, not_built_line, schema_line, database_line}
+use Rattle.kola_top.specs.FaultLines.{usage_line, too_long_line, layout_fault_line, missing_line, query_fault_line, not_built_line, schema_line, database_line}
 use Rattle.kola_top.specs.Stages.{greatest_length, text_at, text_in, IsQuery, IsNoQuery}
 use Rattle.kola_top.specs.Answer.{IsRefused, report_of_form}
 use Rattle.kola_top.specs.Staged.{Says, Stage, Then}
@@ -36,6 +39,9 @@ at_place found = record { refuses = λ _. found.query ≡ None; accepts = λ p. 
 
 abbrev pub at_schema : List ℕ → Stage (ℕ × SchemaWhy) Classes
 at_schema text = record { refuses = λ f. FaultOf greatest_nesting text f.0 f.1; accepts = Writes greatest_nesting text; status = λ _. statuses.Schema; bytes = λ f. schema_line f.0 f.1 }
+
+abbrev pub at_query_text : List ℕ → Stage (ℕ × QueryCause) (Unit {0})
+at_query_text text = record { refuses = λ f. IsQueryFault text f.0 f.1; accepts = λ _. (q : QueryTree) × SpellsQuery text q; status = λ _. statuses.Query; bytes = λ f. query_fault_line f.0 f.1 }
 
 abbrev pub at_query : List ℕ → Stage (Unit {0}) SelectForm
 at_query text = record { refuses = λ _. IsNoQuery text; accepts = IsQuery text; status = λ _. statuses.Query; bytes = λ _. not_built_line }
@@ -58,8 +64,11 @@ FromDatabase job found S f = Then (at_database S (text_in job found.database)) (
 abbrev pub FromQuery : List ℕ → Sections → Span → Classes → Says
 FromQuery job found p S = Then (at_query (text_at job p)) (FromDatabase job found S)
 
+abbrev pub FromQueryText : List ℕ → Sections → Span → Classes → Says
+FromQueryText job found p S = Then (at_query_text (text_at job p)) (λ _. FromQuery job found p S)
+
 abbrev pub FromSchema : List ℕ → Sections → Span → Says
-FromSchema job found p = Then (at_schema (text_in job found.schema)) (FromQuery job found p)
+FromSchema job found p = Then (at_schema (text_in job found.schema)) (FromQueryText job found p)
 
 abbrev pub FromPlace : List ℕ → Sections → Says
 FromPlace job found = Then (at_place found) (FromSchema job found)

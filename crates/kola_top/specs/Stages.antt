@@ -9,6 +9,8 @@ use Rattle.kola_base.specs.declared.lex.Token.{Token}
 use Rattle.kola_base.specs.Tokens.{AreTokens}
 use Rattle.kola_base.specs.Lexemes.{lexemes}
 use Rattle.kola_top.specs.SelectForm.{SelectForm, Says}
+use Rattle.oql_syntax.specs.QueryAnswers.{SpellsQuery}
+use Rattle.oql_syntax.specs.QueryTrees.{QueryTree}
 use Rattle.kola_values.specs.Databases.{Classes, Objects}
 use Rattle.serde_json.specs.Data.{Data}
 use Rattle.kola_load.specs.Loading.{db_of}
@@ -67,16 +69,22 @@ pub record HasSchema (words : List (List ℕ)) (job : List ℕ) : Type 0 where
   pub classes : Classes
   pub writes : Writes greatest_nesting (text_in job before.before.found.schema) classes
 
--- the query's text is this query
-pub record HasQuery (words : List (List ℕ)) (job : List ℕ) : Type 0 where
+-- the query's text spells this query
+pub record HasQueryText (words : List (List ℕ)) (job : List ℕ) : Type 0 where
   pub before : HasSchema words job
+  pub query : QueryTree
+  pub spells : SpellsQuery (text_at job before.before.place) query
+
+-- the query's text is this query of the form
+pub record HasQuery (words : List (List ℕ)) (job : List ℕ) : Type 0 where
+  pub before : HasQueryText words job
   pub form : SelectForm
-  pub is : IsQuery (text_at job before.before.place) form
+  pub is : IsQuery (text_at job before.before.before.place) form
 
 -- the database's text reads as this value, which writes these objects
 pub record HasDatabase (words : List (List ℕ)) (job : List ℕ) : Type 0 where
   pub before : HasQuery words job
   pub value : Data
   pub objects : Objects
-  pub reads : Reads (text_in job before.before.before.before.found.database) value
-  pub writes : db_of before.before.classes value ≡ Ok objects
+  pub reads : Reads (text_in job before.before.before.before.before.found.database) value
+  pub writes : db_of before.before.before.classes value ≡ Ok objects

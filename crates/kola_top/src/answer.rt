@@ -7,7 +7,7 @@ ghost use Rattle.kola_term.specs.Terms.{CSet, FId, FSnd, FComp, FPair, FK, FIter
 ghost use Rattle.kola_text.specs.Spelling.{fun_spelling};
 ghost use Rattle.kola_top.specs.Stages.{text_in, greatest_length};
 ghost use Rattle.kola_top.specs.Answer.{Answer, is_memory, report_of_form, unchanged_report};
-ghost use Rattle.kola_top.specs.StageLine.{at_place, at_schema, at_query, at_database, OnItsWay};
+ghost use Rattle.kola_top.specs.StageLine.{at_place, at_schema, at_query_text, at_query, at_database, OnItsWay};
 ghost use Rattle.kola_top.specs.Refusals.{Passes, Replies, is_told, status_of, line_of};
 ghost use Rattle.kola_top.specs.FormViews.{form_view};
 ghost use Rattle.kola_top.specs.Report.{report_text};
@@ -32,6 +32,7 @@ use kola_schema::Schema;
 use kola_term::{LitSet, Term};
 use kola_text::print_term;
 use kola_values::Set;
+use oql_syntax::read_query;
 use std::alloc::Global;
 
 /// The status of an answer and the bytes that are written.
@@ -132,7 +133,16 @@ fn schema_of(alloc: Global, text: &[u8]) -> Result<Box<Schema>, Refusal>
     Ok(schema)
 }
 
-/// The query that a text is.
+/// Reads the query that a text spells.
+fn read_whole_query(alloc: Global, text: &[u8]) -> Result<(), Refusal>
+    ensures { Passes (at_query_text text.now) (λ _. tt) result }
+{
+    let query = read_query(alloc, text)?;
+    drop(query);
+    Ok(())
+}
+
+/// The query of the form that a text is.
 fn form_of<'a>(alloc: Global, text: &'a [u8]) -> Result<SelectForm<'a>, Refusal>
     ensures { Passes (at_query text.now) form_view result }
 {
@@ -167,7 +177,9 @@ fn report_of(alloc: Global, job: &[u8]) -> Result<Vec<u8>, Refusal>
     let found = sections(job)?;
     let place = query_place(&found)?;
     let schema = schema_of(alloc, text_in(job, found.schema))?;
-    let form = form_of(alloc, text_in(job, Some(place)))?;
+    let text = text_in(job, Some(place));
+    read_whole_query(alloc, text)?;
+    let form = form_of(alloc, text)?;
     database_of(alloc, &schema, text_in(job, found.database))?;
     let bytes = report_on(alloc, &form)?;
     Ok(bytes)

@@ -13,7 +13,8 @@ pub fn a_job_has_exactly_one_answer()
 {}
 
 /// Each answer to the words and a job has the cause that its status names, and no earlier one: `Usage` words that are no command, `TooLong`
-/// a job that is longer than it may be, `Layout` a faulty line or no query's section, `Schema`, `Query` and `Database` a text that is refused.
+/// a job that is longer than it may be, `Layout` a faulty line or no query's section, `Schema` and `Database` a text that is refused,
+/// `Query` a text that spells no query, or a query that is none of the form.
 pub fn answers_have_causes()
     ensures { AnswersHaveCauses }
 {}

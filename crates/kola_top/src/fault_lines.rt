@@ -1,12 +1,16 @@
-//! The lines of the faults of schemas and databases.
+//! The lines of the faults of schemas, queries and databases.
 
 ghost use Rattle.std.specs.Prelude.{◌≡◌, ◌++◌, IfOk, OnOk};
 ghost use Rattle.std.specs.String.{string_bytes};
-ghost use Rattle.kola_top.specs.FaultLines.{schema_line, name_field, text_field, number_field, at_number, database_fields, database_line};
+ghost use Rattle.oql_syntax.specs.QueryAnswers.{why_cause};
+ghost use Rattle.oql_syntax.specs.QueryFaults.{CNotInProfile};
+ghost use Rattle.kola_top.specs.FaultLines.{schema_line, query_fault_line, name_field, text_field, number_field, at_number, database_fields, database_line};
 
+use crate::output::query_line;
 use kola_canon::{push_bytes, push_number, push_text};
 use kola_core::{Memory, Name, Text};
 use kola_load::{DbFault, SchemaWhy};
+use oql_syntax::QueryWhy;
 use std::alloc::{AllocError, Global};
 
 /// The line of a fault of the schema's text, at a place in it.
@@ -15,6 +19,24 @@ pub fn schema_line(alloc: Global, at: usize, why: SchemaWhy) -> Result<String, A
 {
     let cause = why.name();
     format!(in alloc; "fault: schema at {at}: {cause}\n")
+}
+
+/// The line of a query's text that names a word outside the profile.
+fn not_in_profile_line(alloc: Global, at: usize, word: &Name) -> Result<String, AllocError>
+    ensures { IfOk result (λ s. string_bytes s ≡ query_fault_line at (CNotInProfile word.now)) }
+{
+    let word = word.as_text();
+    format!(in alloc; "fault: query at {at}: NotInProfile {word}\n")
+}
+
+/// The line of a fault of the query's text, at a place in it.
+pub fn query_fault_line(alloc: Global, at: usize, why: &QueryWhy) -> Result<String, AllocError>
+    ensures { IfOk result (λ s. string_bytes s ≡ query_fault_line at (why_cause why.now)) }
+{
+    match why {
+        QueryWhy::NotInProfile { word } => not_in_profile_line(alloc, at, word),
+        _ => query_line(alloc, at, why.name()),
+    }
 }
 
 fn push_name_field(out: &mut Vec<u8>, name: &Name) -> Result<(), Memory>

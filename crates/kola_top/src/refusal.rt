@@ -4,12 +4,13 @@ ghost use Rattle.std.specs.Prelude.{◌≡◌, true, IfOk};
 ghost use Rattle.kola_top.specs.FaultLines.{not_built_line};
 ghost use Rattle.kola_top.specs.Refusals.{is_told, status_of, line_of};
 
-use crate::fault_lines::{database_line, schema_line};
+use crate::fault_lines::{database_line, query_fault_line, schema_line};
 use crate::layout::LayoutFault;
 use crate::output::{layout_fault_line, missing_line, query_line};
 use crate::status::Status;
 use kola_core::Memory;
 use kola_load::{DbFault, SchemaFault, SchemaWhy};
+use oql_syntax::{QueryFault, QueryWhy};
 use std::alloc::{AllocError, AllocFailed, Global};
 
 /// Why a job has no report: the first refusal on its way.
@@ -21,6 +22,8 @@ pub enum Refusal {
     NoQuery(u64),
     /// The schema's text is refused, at a place in it.
     Schema(usize, SchemaWhy),
+    /// The query's text is refused, at a place in it.
+    Query(usize, QueryWhy),
     /// The query is none of those that can be answered.
     NotBuilt,
     /// The database's text is refused.
@@ -50,6 +53,20 @@ impl From<SchemaFault> for Refusal {
         match fault {
             SchemaFault::At { at, why } => Refusal::Schema(at, why),
             SchemaFault::Memory => Refusal::Memory,
+        }
+    }
+}
+
+impl From<QueryFault> for Refusal {
+    ghost use Rattle.std.specs.Prelude.{◌≡◌};
+    ghost use Rattle.kola_top.specs.Refusals.{of_query};
+
+    ghost from_gives = { λ fault r. r ≡ of_query fault };
+
+    fn from(fault: QueryFault) -> Refusal {
+        match fault {
+            QueryFault::At { at, why } => Refusal::Query(at, why),
+            QueryFault::Memory => Refusal::Memory,
         }
     }
 }
@@ -84,7 +101,7 @@ impl Refusal {
         match self {
             Refusal::Layout(_) | Refusal::NoQuery(_) => Status::Layout,
             Refusal::Schema(_, _) => Status::Schema,
-            Refusal::NotBuilt => Status::Query,
+            Refusal::Query(_, _) | Refusal::NotBuilt => Status::Query,
             Refusal::Database(_) => Status::Database,
             Refusal::Memory => Status::Memory,
         }
@@ -99,6 +116,7 @@ impl Refusal {
             Refusal::Layout(fault) => Ok(layout_fault_line(alloc, *fault)?.into_bytes()),
             Refusal::NoQuery(line) => Ok(missing_line(alloc, *line, "query")?.into_bytes()),
             Refusal::Schema(at, why) => Ok(schema_line(alloc, *at, *why)?.into_bytes()),
+            Refusal::Query(at, why) => Ok(query_fault_line(alloc, *at, why)?.into_bytes()),
             Refusal::NotBuilt => Ok(query_line(alloc, 0, "NotBuilt")?.into_bytes()),
             Refusal::Database(fault) => database_line(alloc, fault),
             Refusal::Memory => Err(AllocError),

@@ -53,15 +53,6 @@ push_operands-loop-next-preserved t c =
       omega (arith, operand_weight links i x c.loop-next-test.true c.loop-next-item.is, c.loop-next.invariant.1),
     )
 
-pub push_query-returns-in-Intersect : goal.push_query-returns-in-Intersect
-push_query-returns-in-Intersect t c =
-    let text : QueryTree → List (ℕ × QueryTree) → List ℕ = λ e ls. operands_spelling Path (codes " intersect ") false (λ o. spelling_at Path o e) (of_links ls) in
-    subst (λ l. OnOk c.push_operands.result (c.push_operands.new.out.items ≡ c.args.out.now.items ++ l))
-    (ap (λ e. text e (map link_entry c.as_slice-in-Intersect.result.now)) c.get-in-Intersect.ensures
-    ∙ ap (λ ls. text c.in-Intersect.e ls) c.as_slice-in-Intersect.ensures
-    ∙ ap (λ f. spelling c.args.open_end (form_tree c.args.query.now.at f)) (sym c.in-Intersect.is))
-    c.push_operands.ensures
-
 -- ---- union and except
 
 pub push_set_links-push_part-requires : goal.push_set_links-push_part-requires

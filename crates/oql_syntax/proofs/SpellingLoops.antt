@@ -1,12 +1,12 @@
 -- Loops that add the text of one part of a query after another.
-use Rattle.std.proofs.Common.{◌≡◌, ℕ, ◌+◌, ◌<◌, Bool, false, true, List, [], ◌∷◌, ◌++◌, length, get_or, map, take, drop, refl, sym, ap, ◌∙◌, codes, arith}
+use Rattle.std.proofs.Common.{◌≡◌, ℕ, ◌+◌, ◌<◌, Bool, false, true, List, [], ◌∷◌, ◌++◌, length, get_or, map, drop, refl, sym, ap, ◌∙◌, codes, arith}
 use Rattle.std.specs.List.{flat_map}
 use Rattle.std.proofs.lemmas.List.{append_assoc, append-nil}
 use Rattle.kola_core.specs.declared.name.Name.{Name}
 use Rattle.kola_core.proofs.Lists.{left_less}
 use Rattle.oql_syntax.specs.QueryTrees.{LitTree, QueryTree, of_links, of_set_links, of_fields, of_ranges}
 use Rattle.oql_syntax.specs.QueryViews.{query_tree, link_entry, named_entry}
-use Rattle.oql_syntax.specs.Models.Weights.{weight, links_weight, fields_weight, ranges_weight}
+use Rattle.oql_syntax.specs.Models.Weights.{weight, links_weight, ranges_weight}
 use Rattle.oql_syntax.specs.declared.print.Class.{Class}
 use Rattle.oql_syntax.specs.declared.print.Class.TheVariants.{Sets, Meet}
 use Rattle.oql_syntax.specs.QuerySpelling.{spelling, spelling_at, further_literal, union_spelling, operands_spelling, set_links_spelling, further_fields, further_ranges}

@@ -5,16 +5,16 @@ ghost use Rattle.std.specs.List.{flat_map};
 ghost use Rattle.kola_canon.specs.Spelling.{truth};
 ghost use Rattle.oql_syntax.specs.QueryTrees.{of_links, of_set_links, of_fields, of_ranges};
 ghost use Rattle.oql_syntax.specs.QueryViews.{lit_tree, literal_entries, form_tree, query_tree, link_entry, set_link_entry, named_entry, where_of};
-ghost use Rattle.oql_syntax.specs.declared.print.Class.TheVariants.{Sets, Meet, Prim};
+ghost use Rattle.oql_syntax.specs.declared.print.Class.TheVariants.{Not, Sets, Meet, Prim};
 ghost use Rattle.oql_syntax.specs.QuerySpelling.{class_number, class_of, is_quantifier, takes, literal_spelling, further_literal, literals_spelling, label_spelling, comparison_spelling, union_spelling, spelling, spelling_at, operands_spelling, set_links_spelling, fields_spelling, further_fields, ranges_spelling, further_ranges, where_spelling, query_spelling};
 
-use crate::query::{BoxedExpr, Expr, Form, Lit, Query, Sign};
+use crate::query::{BoxedExpr, Chain, Expr, Form, Lit, Query, Sign};
 use kola_canon::{push_bytes, push_int, push_text};
 use kola_core::{Memory, Name};
 use std::alloc::Global;
 
-/// The one canonical spelling of a query, in bytes: words in lower case, ranges with `in`, paths with dots, and parentheses exactly where
-/// the grammar does not take a part bare at its place, decided from the outside inwards.
+/// The one canonical spelling of a query, in bytes: words in lower case, ranges with `in`, paths with dots, and parentheses
+/// exactly where the grammar does not take a part bare at its place, decided from the outside inwards.
 pub fn print_query(alloc: Global, query: &Query) -> Result<Vec<u8>, Memory>
     ensures { IfOk result (λ text. text.items ≡ query_spelling (query_tree query.now)) }
 {
@@ -132,6 +132,15 @@ fn push_literals(out: &mut Vec<u8>, literals: &[(Lit, usize)]) -> Result<(), Mem
     Ok(())
 }
 
+fn push_set_of(out: &mut Vec<u8>, literals: &[(Lit, usize)]) -> Result<(), Memory>
+    ensures { OnOk result (out.new.items ≡ out.old.items
+        ++ (codes "set(" ++ literals_spelling (literal_entries literals.now) ++ codes ")")) }
+{
+    push_bytes(out, b"set(")?;
+    push_literals(out, literals)?;
+    push_bytes(out, b")")
+}
+
 fn push_labels(out: &mut Vec<u8>, labels: &[(Name, usize)]) -> Result<(), Memory>
     ensures { OnOk result (out.new.items ≡ out.old.items ++ flat_map label_spelling labels.now) }
 {
@@ -176,53 +185,15 @@ fn push_query(out: &mut Vec<u8>, query: &Expr, open_end: bool) -> Result<(), Mem
     match &query.form {
         Form::Name(name) => push_name(out, name),
         Form::Literal(literal) => push_literal(out, literal),
-        Form::SetOf(literals) => {
-            push_bytes(out, b"set(")?;
-            push_literals(out, literals.as_slice())?;
-            push_bytes(out, b")")
-        }
+        Form::SetOf(literals) => push_set_of(out, literals.as_slice()),
         Form::Path(e, labels) => push_path(out, e, labels.as_slice()),
-        Form::Struct(fields) => {
-            push_bytes(out, b"struct(")?;
-            push_fields(out, fields.as_slice())?;
-            push_bytes(out, b")")
-        }
+        Form::Struct(fields) => push_struct(out, fields.as_slice()),
         Form::Flatten(e) => push_inside(out, b"flatten(", e),
         Form::SomeMember(e) => push_inside(out, b"exists(", e),
-        Form::Not(e) => {
-            push_bytes(out, b"not ")?;
-            push_part(out, e.get(), Class::Not, open_end)
-        }
-        Form::Intersect(e, links) => {
-            push_operands(
-                out,
-                e.get(),
-                links.as_slice(),
-                Class::Path,
-                b" intersect ",
-                false,
-            )
-        }
-        Form::And(e, links) => {
-            push_operands(
-                out,
-                e.get(),
-                links.as_slice(),
-                Class::Not,
-                b" and ",
-                open_end,
-            )
-        }
-        Form::Or(e, links) => {
-            push_operands(
-                out,
-                e.get(),
-                links.as_slice(),
-                Class::And,
-                b" or ",
-                open_end,
-            )
-        }
+        Form::Not(e) => push_not(out, e, open_end),
+        Form::Intersect(e, links) => push_chain(out, e, links, Class::Path, b" intersect ", false),
+        Form::And(e, links) => push_chain(out, e, links, Class::Not, b" and ", open_end),
+        Form::Or(e, links) => push_chain(out, e, links, Class::And, b" or ", open_end),
         Form::UnionExcept(e, links) => push_sets(out, e, links.as_slice()),
         Form::Compare(sign, a, b) => push_comparison(out, *sign, a, b),
         Form::Exists(x, range, body) => push_quantifier(out, b"exists ", x, range, body),
@@ -254,6 +225,15 @@ fn push_inside(out: &mut Vec<u8>, before: &[u8], e: &BoxedExpr) -> Result<(), Me
     push_bytes(out, before)?;
     push_query(out, e.get(), true)?;
     push_bytes(out, b")")
+}
+
+#[cycle(print)]
+fn push_not(out: &mut Vec<u8>, e: &BoxedExpr, open_end: bool) -> Result<(), Memory>
+    ensures { OnOk result (out.new.items ≡ out.old.items
+        ++ (codes "not " ++ spelling_at Not open_end e.now)) }
+{
+    push_bytes(out, b"not ")?;
+    push_part(out, e.get(), Class::Not, open_end)
 }
 
 #[cycle(print)]
@@ -289,7 +269,8 @@ fn push_quantifier(
     body: &BoxedExpr,
 ) -> Result<(), Memory>
     ensures { OnOk result (out.new.items ≡ out.old.items
-        ++ (before.now ++ x.now ++ codes " in " ++ spelling_at Sets false range.now ++ codes " : " ++ spelling true body.now)) }
+        ++ (before.now ++ x.now ++ codes " in " ++ spelling_at Sets false range.now
+        ++ codes " : " ++ spelling true body.now)) }
 {
     push_bytes(out, before)?;
     push_name(out, x)?;
@@ -299,7 +280,23 @@ fn push_quantifier(
     push_query(out, body.get(), true)
 }
 
-/// Adds the operands of a chain, with the word between each two; the end of the last one alone may be open.
+/// Adds a chain; the end of its last operand alone may be open.
+#[cycle(print)]
+fn push_chain(
+    out: &mut Vec<u8>,
+    e: &BoxedExpr,
+    links: &Chain,
+    class: Class,
+    word: &[u8],
+    open_end: bool,
+) -> Result<(), Memory>
+    ensures { OnOk result (out.new.items ≡ out.old.items
+        ++ operands_spelling class word.now open_end (λ o. spelling_at class o e.now) (of_links links.now)) }
+{
+    push_operands(out, e.get(), links.as_slice(), class, word, open_end)
+}
+
+/// Adds the operands of a chain, with the word between each two.
 #[cycle(print)]
 fn push_operands(
     out: &mut Vec<u8>,
@@ -310,7 +307,8 @@ fn push_operands(
     open_end: bool,
 ) -> Result<(), Memory>
     ensures { OnOk result (out.new.items ≡ out.old.items
-        ++ operands_spelling class word.now open_end (λ o. spelling_at class o (query_tree first.now)) (of_links (map link_entry links.now))) }
+        ++ operands_spelling class word.now open_end (λ o. spelling_at class o (query_tree first.now))
+        (of_links (map link_entry links.now))) }
 {
     let mut last = first;
     for (_, next) in links {
@@ -336,13 +334,24 @@ fn push_sets(
 
 #[cycle(print)]
 fn push_set_links(out: &mut Vec<u8>, links: &[(usize, bool, Expr)]) -> Result<(), Memory>
-    ensures { OnOk result (out.new.items ≡ out.old.items ++ set_links_spelling (of_set_links (map set_link_entry links.now))) }
+    ensures { OnOk result (out.new.items ≡ out.old.items
+        ++ set_links_spelling (of_set_links (map set_link_entry links.now))) }
 {
     for (_, except, e) in links {
         push_union(out, *except)?;
         push_part(out, e, Class::Meet, false)?;
     }
     Ok(())
+}
+
+#[cycle(print)]
+fn push_struct(out: &mut Vec<u8>, fields: &[(Name, usize, Expr)]) -> Result<(), Memory>
+    ensures { OnOk result (out.new.items ≡ out.old.items
+        ++ (codes "struct(" ++ fields_spelling (of_fields (map named_entry fields.now)) ++ codes ")")) }
+{
+    push_bytes(out, b"struct(")?;
+    push_fields(out, fields)?;
+    push_bytes(out, b")")
 }
 
 #[cycle(print)]

@@ -1,11 +1,11 @@
-use Rattle.std.proofs.Common.{◌≡◌, ℕ, List, ◌+◌, ◌++◌, map, drop, false, true, refl, sym, ap, subst, ◌∙◌, codes, arith}
+use Rattle.std.proofs.Common.{◌≡◌, ◌+◌, ◌++◌, map, drop, false, true, refl, sym, ap, subst, ◌∙◌, codes, arith}
 use Rattle.std.specs.Prelude.{OnOk}
 use Rattle.std.proofs.lemmas.List.{append_assoc}
 use Rattle.kola_canon.proofs.Texts.{spelt_more}
-use Rattle.oql_syntax.specs.QueryTrees.{QueryTree, of_links, of_set_links, of_fields, of_ranges}
+use Rattle.oql_syntax.specs.QueryTrees.{of_links, of_set_links, of_fields, of_ranges}
 use Rattle.oql_syntax.specs.QueryViews.{form_tree, query_tree, link_entry, set_link_entry, named_entry, where_of}
 use Rattle.oql_syntax.specs.Models.Weights.{fields_weight, ranges_weight}
-use Rattle.oql_syntax.specs.declared.print.Class.TheVariants.{Meet, Path}
+use Rattle.oql_syntax.specs.declared.print.Class.TheVariants.{Meet}
 use Rattle.oql_syntax.specs.QuerySpelling.{spelling, spelling_at, operands_spelling, union_spelling, set_links_spelling, further_fields, ranges_spelling, further_ranges, where_spelling}
 use Rattle.oql_syntax.proofs.QueryLoops.{set_link_falls, named_falls}
 use Rattle.oql_syntax.proofs.SpellingLoops.{set_links_push, set_link_text, further_fields_push, field_text, further_ranges_push, range_text, range_falls, added_in_turn, operand_more, operand_weight}
@@ -55,12 +55,9 @@ push_operands-loop-next-preserved t c =
 
 pub push_query-returns-in-Intersect : goal.push_query-returns-in-Intersect
 push_query-returns-in-Intersect t c =
-    let text : QueryTree → List (ℕ × QueryTree) → List ℕ = λ e ls. operands_spelling Path (codes " intersect ") false (λ o. spelling_at Path o e) (of_links ls) in
-    subst (λ l. OnOk c.push_operands.result (c.push_operands.new.out.items ≡ c.args.out.now.items ++ l))
-    (ap (λ e. text e (map link_entry c.as_slice-in-Intersect.result.now)) c.get-in-Intersect.ensures
-    ∙ ap (λ ls. text c.in-Intersect.e ls) c.as_slice-in-Intersect.ensures
-    ∙ ap (λ f. spelling c.args.open_end (form_tree c.args.query.now.at f)) (sym c.in-Intersect.is))
-    c.push_operands.ensures
+    subst (λ l. OnOk c.push_chain.result (c.push_chain.new.out.items ≡ c.args.out.now.items ++ l))
+    (ap (λ f. spelling c.args.open_end (form_tree c.args.query.now.at f)) (sym c.in-Intersect.is))
+    c.push_chain.ensures
 
 -- ---- union and except
 

@@ -14,6 +14,15 @@ decreases-push_part l = 4 * weight (query_tree l.e.now) + 1
 abbrev pub decreases-push_inside : goal.decreases-push_inside
 decreases-push_inside l = 4 * weight l.e.now + 1
 
+abbrev pub decreases-push_not : goal.decreases-push_not
+decreases-push_not l = 4 * weight l.e.now + 2
+
+abbrev pub decreases-push_chain : goal.decreases-push_chain
+decreases-push_chain l = 4 * (weight l.e.now + links_weight (of_links l.links.now)) + 3
+
+abbrev pub decreases-push_struct : goal.decreases-push_struct
+decreases-push_struct l = 4 * fields_weight (of_fields (map named_entry l.fields.now)) + 1
+
 abbrev pub decreases-push_path : goal.decreases-push_path
 decreases-push_path l = 4 * weight l.e.now + 2
 

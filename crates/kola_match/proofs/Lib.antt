@@ -9,6 +9,7 @@ mod SubstitutionExamples
 mod HoldingExamples
 pub mod RuleTested
 mod RuleOkExamples
+mod RuleChecksExamples
 pub mod NodeLaws
 pub mod PairLaws
 pub mod BindLaws

@@ -1,10 +1,10 @@
 -- The conditions on a rule, as the program goes through them.
-use Rattle.std.proofs.Common.{◌≡◌, ◌≤◌, ◌<◌, ◌↔◌, ℕ, zero, suc, ◌+◌, Bool, true, false, cond, ◌&&◌, ◌||◌, List, [], ◌∷◌, length, drop, map, get_or, Option, Some, None, is_some, option_map, refl, sym, ap, ◌∙◌, subst, arith}
+use Rattle.std.proofs.Common.{◌≡◌, ◌<◌, ◌↔◌, ℕ, zero, suc, ◌+◌, Bool, true, false, cond, ◌&&◌, ◌||◌, List, [], ◌∷◌, length, drop, map, get_or, Option, Some, None, is_some, option_map, refl, sym, ap, ◌∙◌, subst, arith}
 use Rattle.std.specs.Borrow.{Bor}
 use Rattle.std.specs.List.{find, list_all}
 use Rattle.std.specs.Option.{option_copied}
 use Rattle.std.specs.Str.{bytes_eq}
-use Rattle.std.proofs.lemmas.List.{drop_more, drop_all}
+use Rattle.std.proofs.lemmas.List.{drop_more}
 use Rattle.std.proofs.lemmas.List.Folds.{list_all-map}
 use Rattle.kola_core.specs.NameLists.{is_listed}
 use Rattle.kola_core.specs.declared.name.Name.{Name}
@@ -35,9 +35,6 @@ module _ {A : Type 0} (P : A → Type 0) where
 
   pub one_more : (us : List A) (i : ℕ) (x : A) → i < length us → get_or us i x ≡ x → P x → AllFrom us i → AllFrom us (i + 1)
   one_more us i x p e h k = λ r. k (subst (λ l. Each P l) (sym (drop_more us i x p ∙ ap (λ y. y ∷ drop (i + 1) us) e)) (h, r))
-
-  pub all_of : (us : List A) (i : ℕ) → length us ≤ i → AllFrom us i → Each P us
-  all_of us i p k = k (subst (λ l. Each P l) (sym (drop_all i us p)) tt)
 
   pub at_place : (us : List A) (i : ℕ) (x : A) → i < length us → get_or us i x ≡ x → Each P us → P x
   at_place [] i x p e h = absurd (omega arith)

@@ -246,8 +246,9 @@ fn sides_fit(
 }
 
 /// Whether the rule is well typed under the schema: its variables have distinct names, each stands on a side, its
-/// conditions name functions, every class in its types is of the schema, and both sides are within the limits and typed
-/// at the input type, as functions with one output type or as predicates.
+/// conditions name functions, every class in its types is of the schema, and both sides are typed at the input type, as
+/// functions with one output type or as predicates. A side has at most 20,000 nodes and a depth of at most 256, and no
+/// function in it has an output type of more than 4,096 nodes at its place.
 pub fn rule_ok(alloc: Global, schema: &Schema, rule: &Rule) -> Result<bool, Memory>
     ensures { IfOk result (λ b. (b ≡ true) ↔ RuleOk schema.now (rule_tree rule.now)) }
 {

@@ -141,7 +141,12 @@ fn occurs(
 }
 
 /// Whether each variable stands on one of the two sides.
-pub(crate) fn all_occur(alloc: Global, vars: &MetaCtx, left: &Term, right: &Term) -> Result<bool, Memory>
+pub(crate) fn all_occur(
+    alloc: Global,
+    vars: &MetaCtx,
+    left: &Term,
+    right: &Term,
+) -> Result<bool, Memory>
     ensures { IfOk result (λ b. (b ≡ true)
         ↔ Each (OccursOnASide (term_tree left.now) (term_tree right.now)) (context_of vars.now)) }
 {

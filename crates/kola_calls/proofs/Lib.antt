@@ -1,1 +1,1 @@
-mod Unlisted
+mod TypedParts

@@ -1,9 +1,13 @@
--- A new name at the end of distinct names.
-use Rattle.std.proofs.Common.{◌≡◌, ℕ, Bool, true, false, not, ◌&&◌, ◌||◌, List, [], ◌∷◌, ◌++◌, refl, sym, ap, ap₂, ◌∙◌, true≢false}
-use Rattle.std.proofs.lemmas.List.{map_push}
+-- A new name at the end of distinct names, and names that have a place.
+use Rattle.std.proofs.Common.{◌≡◌, ℕ, suc, ◌+◌, ◌<◌, Bool, true, false, not, ◌&&◌, ◌||◌, List, [], ◌∷◌, ◌++◌, Some, None, cond, is_some, length, get_or, map, take, position, nat_lt, refl, sym, ap, ap₂, ◌∙◌, subst, arith, true≢false}
+use Rattle.std.proofs.lemmas.List.{map_push, take_all}
+use Rattle.std.proofs.lemmas.Bool.Decides.{nat_tests}
+use Rattle.std.specs.List.{list_any, position_or_len}
 use Rattle.std.specs.Str.{bytes_eq}
 use Rattle.kola_core.specs.NameLists.{is_listed, with_name}
 use Rattle.kola_core.proofs.NameLists.{with_new}
+use Rattle.kola_core.proofs.Lists.{taken_more}
+use Rattle.kola_schema.proofs.Places.{fresh}
 use Rattle.kola_schema.specs.Schemas.{are_distinct}
 use Rattle.kola_term.proofs.Inversions.{and_true, same_name-equal}
 use Rattle.kola_term.proofs.Introductions.{same_name_itself}
@@ -14,9 +18,13 @@ either_false : (a b : Bool) → (a || b) ≡ false → (a ≡ false) × (b ≡ f
 either_false true b e = absurd (cc)
 either_false false b e = (refl, e)
 
-not_true : (a : Bool) → not a ≡ true → a ≡ false
+pub not_true : (a : Bool) → not a ≡ true → a ≡ false
 not_true true e = absurd (cc)
 not_true false e = refl
+
+pub not_false : (a : Bool) → not a ≡ false → a ≡ true
+not_false true e = refl
+not_false false e = absurd (cc)
 
 turned : (m n : List ℕ) (b : Bool) → bytes_eq m n ≡ b → bytes_eq n m ≡ false → b ≡ false
 turned m n true e h = absurd (true≢false (sym (same_name_itself n) ∙ ap (bytes_eq n) (sym (same_name-equal m n e)) ∙ h))
@@ -45,3 +53,37 @@ names_longer names text rs r e t k =
     (λ i. with_name (e i) (t i))
     ∙ with_new (rule_names rs) r.name k
     ∙ sym (map_push (λ (r : Rule). r.name) rs r)
+
+-- ---- names that have a place
+
+step : (b : Bool) (i n : ℕ) (r : Bool) → nat_lt i n ≡ r → nat_lt (cond (not b) (1 + i) 0) (suc n) ≡ (b || r)
+step true i n r h = grind (arith, nat_tests)
+step false i n true h = grind (arith, nat_tests)
+step false i n false h = grind (arith, nat_tests)
+
+before_end : {X : Type 0} (p : X → Bool) (xs : List X) → nat_lt (position_or_len p xs) (length xs) ≡ list_any p xs
+before_end p [] = refl
+before_end p (x ∷ xs) = step (p x) (position_or_len p xs) (length xs) (list_any p xs) (before_end p xs)
+
+some_place : (c : Bool) (i : ℕ) → is_some (cond c (Some i) None) ≡ c
+some_place true i = refl
+some_place false i = refl
+
+-- a name has a place exactly where it is listed
+pub placed : (n : List ℕ) (ns : List (List ℕ)) → is_some (position (bytes_eq n) ns) ≡ is_listed n ns
+placed n ns = some_place (nat_lt (position_or_len (bytes_eq n) ns) (length ns)) (position_or_len (bytes_eq n) ns) ∙ before_end (bytes_eq n) ns
+
+-- ---- the names of rules, one by one
+
+module _ (rs : List Rule) (i : ℕ) (r : Rule) (p : i < length rs) (e : r ≡ get_or rs i r) where
+  -- one that stood before
+  pub repeated : is_listed r.name (take i (rule_names rs)) ≡ true → false ≡ are_distinct (rule_names rs)
+  repeated h = decide (are_distinct (rule_names rs)) refl
+    where
+      decide : (b : Bool) → are_distinct (rule_names rs) ≡ b → false ≡ b
+      decide true k = sym (fresh (λ (r : Rule). r.name) rs i r p e k) ∙ h
+      decide false k = refl
+
+  -- one that did not
+  pub distinct_so_far : are_distinct (take i (rule_names rs)) ≡ true → is_listed r.name (take i (rule_names rs)) ≡ false → are_distinct (take (i + 1) (rule_names rs)) ≡ true
+  distinct_so_far h k = ap are_distinct (taken_more (λ (r : Rule). r.name) rs (rule_names rs) i r refl p e) ∙ distinct_more (take i (rule_names rs)) r.name h k

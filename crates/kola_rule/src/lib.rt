@@ -5,4 +5,4 @@ mod rule;
 mod table;
 
 pub use rule::{Draft, Drafts, Rule, Step, Steps};
-pub use table::RuleTable;
+pub use table::{RuleTable, names_are_distinct};

@@ -1,13 +1,11 @@
 //! Tables of rules, each found by its name.
 
-ghost use Rattle.std.specs.Prelude.{◌≡◌, [], ◌∷◌, ◌++◌, false, true, length, position, slice_get};
+ghost use Rattle.std.specs.Prelude.{◌≡◌, [], ◌∷◌, ◌++◌, false, true, is_some, length, position, slice_get};
 ghost use Rattle.std.specs.Prelude.{IfOk, OnOk, OnErr, IfErr};
 ghost use Rattle.std.specs.Option.{option_copied};
 ghost use Rattle.std.specs.Str.{bytes_eq};
 ghost use Rattle.kola_core.specs.NameLists.{is_listed};
 ghost use Rattle.kola_schema.specs.Schemas.{are_distinct};
-ghost use Rattle.kola_rule.specs.Rules.{RuleTree};
-ghost use Rattle.kola_rule.specs.RuleViews.{rule_tree, rule_at};
 ghost use Rattle.kola_rule.specs.Tables.{rule_names};
 
 use crate::rule::Rule;
@@ -42,6 +40,19 @@ impl Model for RuleTable {
     ghost invariant = { λ a. (a.names ≡ rule_names a.rules.items) × (are_distinct (rule_names a.rules.items) ≡ true) };
 }
 
+/// Whether no two rules have one name. It takes linear expected time.
+pub fn names_are_distinct(alloc: Global, rules: &[Rule]) -> Result<bool, Memory>
+    ensures { IfOk result (λ b. b ≡ are_distinct (rule_names rules.now)) }
+{
+    let mut names = NameTable::new(alloc);
+    for rule in rules {
+        if !names.add(rule.name.as_text())? {
+            return Ok(false);
+        }
+    }
+    Ok(true)
+}
+
 /// The names of rules, in their order.
 fn names_of(alloc: Global, rules: &[Rule]) -> Result<NameTable, Memory>
     requires { are_distinct (rule_names rules.now) ≡ true }
@@ -55,7 +66,7 @@ fn names_of(alloc: Global, rules: &[Rule]) -> Result<NameTable, Memory>
 }
 
 impl RuleTable {
-    /// The table of these rules, in their order. No two may have one name.
+    /// The table of these rules, in their order. No two may have one name, which `names_are_distinct` tests.
     pub fn from_rules(alloc: Global, rules: Vec<Rule>) -> Result<RuleTable, Memory>
         requires { are_distinct (rule_names rules.items) ≡ true }
         ensures { IfOk result (λ t. t ≡ rules.items) }
@@ -98,13 +109,14 @@ impl RuleTable {
     /// The place of the rule of a name, counted from 0; `None` where no rule has the name. It takes constant expected
     /// time.
     pub fn find(&self, name: &Name) -> Option<usize>
-        ensures { result ≡ position (bytes_eq name.now) (rule_names self.now) }
+        ensures place { result ≡ position (bytes_eq name.now) (rule_names self.now) }
+        ensures listed { is_some result ≡ is_listed name.now (rule_names self.now) }
     {
         self.names.place(name.as_text())
     }
 
-    /// Adds a rule at the end. No rule of the table may have its name. Where memory is wanted, the table stays as it
-    /// was, and the rule is handed back.
+    /// Adds a rule at the end. No rule of the table may have its name, as where `find` has not found it. Where memory is
+    /// wanted, the table stays as it was, and the rule is handed back.
     pub fn push(&mut self, rule: Rule) -> Result<(), (Memory, Rule)>
         requires { is_listed rule.name (rule_names self.old) ≡ false }
         ensures ok { OnOk result (self.new ≡ self.old ++ rule ∷ []) }

@@ -7,8 +7,9 @@ use Rattle.kola_term.specs.Terms.{FunTree, FId, PredTree, PEq, ConstTree, CBool,
 use Rattle.kola_term.proofs.Inversions.{some_same, same_name-equal, same_ty-equal}
 use Rattle.kola_term.proofs.Introductions.{same_name_itself, same_ty_itself}
 use Rattle.kola_match.specs.Substitutions.{Substitution, inst}
-use Rattle.kola_match.specs.Binds.{Found, Binds, GivesFound, Extends, Finds, or_else, substitution_of, funs_in, preds_in, consts_in, binds}
-use Rattle.kola_match.specs.Pairs.{first_like, variable_like, same_kind}
+use Rattle.kola_match.specs.Binds.{Found, Binds, GivesFound, Extends, or_else, substitution_of, funs_in, preds_in, consts_in, binds}
+use Rattle.kola_match.specs.Finding.{Finds}
+use Rattle.kola_match.specs.Alike.{first_like, variable_like, same_kind}
 
 -- ---- a new name at the end
 
@@ -105,19 +106,19 @@ other_like : (c : Bool) (a : TermTree) (o q : Option TermTree) → o ≡ q → c
 other_like true a o q e = e
 other_like false a o q e = e
 
-like_fun : (f : FunTree) (n : List ℕ) (es : Found TermTree) → first_like (TermF f) n es ≡ option_map TermF (look_up n (funs_in es))
+pub like_fun : (f : FunTree) (n : List ℕ) (es : Found TermTree) → first_like (TermF f) n es ≡ option_map TermF (look_up n (funs_in es))
 like_fun f n [] = refl
 like_fun f n ((m, TermF g) ∷ es) = same_like TermF g (bytes_eq n m) (first_like (TermF f) n es) (look_up n (funs_in es)) (like_fun f n es)
 like_fun f n ((m, TermP g) ∷ es) = other_like (bytes_eq n m) (TermP g) (first_like (TermF f) n es) (option_map TermF (look_up n (funs_in es))) (like_fun f n es)
 like_fun f n ((m, TermC g) ∷ es) = other_like (bytes_eq n m) (TermC g) (first_like (TermF f) n es) (option_map TermF (look_up n (funs_in es))) (like_fun f n es)
 
-like_pred : (f : PredTree) (n : List ℕ) (es : Found TermTree) → first_like (TermP f) n es ≡ option_map TermP (look_up n (preds_in es))
+pub like_pred : (f : PredTree) (n : List ℕ) (es : Found TermTree) → first_like (TermP f) n es ≡ option_map TermP (look_up n (preds_in es))
 like_pred f n [] = refl
 like_pred f n ((m, TermF g) ∷ es) = other_like (bytes_eq n m) (TermF g) (first_like (TermP f) n es) (option_map TermP (look_up n (preds_in es))) (like_pred f n es)
 like_pred f n ((m, TermP g) ∷ es) = same_like TermP g (bytes_eq n m) (first_like (TermP f) n es) (look_up n (preds_in es)) (like_pred f n es)
 like_pred f n ((m, TermC g) ∷ es) = other_like (bytes_eq n m) (TermC g) (first_like (TermP f) n es) (option_map TermP (look_up n (preds_in es))) (like_pred f n es)
 
-like_const : (f : ConstTree) (n : List ℕ) (es : Found TermTree) → first_like (TermC f) n es ≡ option_map TermC (look_up n (consts_in es))
+pub like_const : (f : ConstTree) (n : List ℕ) (es : Found TermTree) → first_like (TermC f) n es ≡ option_map TermC (look_up n (consts_in es))
 like_const f n [] = refl
 like_const f n ((m, TermF g) ∷ es) = other_like (bytes_eq n m) (TermF g) (first_like (TermC f) n es) (option_map TermC (look_up n (consts_in es))) (like_const f n es)
 like_const f n ((m, TermP g) ∷ es) = other_like (bytes_eq n m) (TermP g) (first_like (TermC f) n es) (option_map TermC (look_up n (consts_in es))) (like_const f n es)

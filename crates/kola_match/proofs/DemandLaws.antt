@@ -5,9 +5,10 @@ use Rattle.kola_values.specs.Databases.{Classes}
 use Rattle.kola_term.specs.Terms.{FunTree, PredTree, ConstTree, TermTree, TermF, TermP, TermC}
 use Rattle.kola_term.specs.Typing.{Context, MetaTree, MFun, MPred, MConst}
 use Rattle.kola_match.specs.Substitutions.{sub_type}
-use Rattle.kola_match.specs.Binds.{Binds, Finds}
+use Rattle.kola_match.specs.Binds.{Binds}
+use Rattle.kola_match.specs.Finding.{Finds}
 use Rattle.kola_match.specs.Demanding.{FunDemand, ConstDemand}
-use Rattle.kola_match.specs.Instances.{Demands}
+use Rattle.kola_match.specs.Demanding.{Demands}
 
 module _ (S : Classes) (x : Context) (r : Bool) (old new : Binds) (m : MetaTree) (o : Option TermTree) (w : Option TypeTree) where
   pub fun_demands : (a c : TypeTree) (f : FunTree) (v : TypeTree) → m ≡ MFun a c → Some (TermF f) ≡ o → w ≡ Some v → Finds r old new (FunDemand S x a c f v) → Finds r old new (Demands S x m o w)

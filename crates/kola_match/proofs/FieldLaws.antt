@@ -10,7 +10,8 @@ use Rattle.kola_values.specs.declared.ty.Ty.{Ty}
 use Rattle.kola_term.proofs.Inversions.{some_same, same_name-equal}
 use Rattle.kola_term.proofs.Introductions.{same_name_itself}
 use Rattle.kola_match.specs.Substitutions.{Substitution, sub_type, sub_types}
-use Rattle.kola_match.specs.Binds.{Binds, Finds, FieldsGive}
+use Rattle.kola_match.specs.Binds.{Binds}
+use Rattle.kola_match.specs.Finding.{Finds, FieldsGive}
 use Rattle.kola_match.proofs.BindLaws.{finds_same, finds_then, finds_nothing_more}
 
 abbrev Entries : Type 0

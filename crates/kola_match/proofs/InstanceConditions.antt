@@ -15,7 +15,8 @@ use Rattle.kola_rule.specs.Rules.{RuleTree}
 use Rattle.kola_match.specs.Occurring.{Occurs}
 use Rattle.kola_match.specs.RuleOk.{RuleOk, SidesFit}
 use Rattle.kola_match.specs.RuleChecks.{OccursOnASide}
-use Rattle.kola_match.specs.Instances.{pattern_side, other_side, AllDeclared}
+use Rattle.kola_match.specs.Instances.{pattern_side, other_side}
+use Rattle.kola_match.specs.Spotting.{AllDeclared}
 use Rattle.kola_match.specs.Spotting.{OccursOn, AllOccurOn}
 
 apart : (a b : Bool) → not (a || b) ≡ true → (a ≡ false) × (not b ≡ true)

@@ -10,9 +10,21 @@ use Rattle.kola_term.proofs.Paths.{typed_at}
 use Rattle.kola_match.specs.Substitutions.{Substitution, sub_type, inst, IsTyped, HasMetaType}
 use Rattle.kola_match.specs.Pairs.{Sides, AllGive}
 use Rattle.kola_match.specs.Occurring.{variable}
-use Rattle.kola_match.specs.Instances.{Demands, AllDemand, Spots, AllFound}
+use Rattle.kola_match.specs.Demanding.{Demands}
+use Rattle.kola_match.specs.Spotting.{Spot, Spots, AllDemand}
 use Rattle.kola_match.proofs.Closed.{AttributesClosed}
 use Rattle.kola_match.proofs.Commute.{sub_inst, place_inst}
+
+-- the variable stands at the spot, in a side and a term that are typed
+abbrev FoundAt : Classes → Context → Context → TypeTree → TypeTree → Sides → (List ℕ × MetaTree) × Spot → Type 0
+FoundAt S x vars input T sides e =
+    Typed S vars e.1.0 input × Typed S x e.1.1 T × (look_up e.0.0 vars ≡ Some e.0.1) × (sub_at e.1.0 e.1.2 ≡ Some (variable e.0.0 e.0.1)) × ((s : Substitution) → AllGive s sides → inst s e.1.0 ≡ e.1.1)
+
+-- each variable has a spot
+abbrev pub AllFound : Classes → Context → Context → TypeTree → TypeTree → Sides → Context → Spots → Type 0
+AllFound S x vars input T sides [] [] = Unit {0}
+AllFound S x vars input T sides (v ∷ vs) (e ∷ es) = (e.0 ≡ v) × FoundAt S x vars input T sides e × AllFound S x vars input T sides vs es
+AllFound S x vars input T sides _ _ = ⊥
 
 -- ---- one variable
 

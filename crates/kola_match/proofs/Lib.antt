@@ -20,3 +20,5 @@ pub mod DemandLaws
 pub mod SpottingLaws
 pub mod MatchedLaws
 pub mod InstanceConditions
+pub mod AgreeingLaws
+pub mod GivingLaws

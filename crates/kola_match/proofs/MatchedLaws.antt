@@ -6,10 +6,13 @@ use Rattle.kola_term.specs.Terms.{TermTree}
 use Rattle.kola_term.specs.Typing.{Context, MetaTree}
 use Rattle.kola_term.specs.Places.{Typed, sub_at}
 use Rattle.kola_match.specs.Substitutions.{Substitution, sub_type, inst, IsTyped}
-use Rattle.kola_match.specs.Binds.{Binds, binds, Extends, Finds, substitution_of}
+use Rattle.kola_match.specs.Binds.{Binds, binds, Extends, substitution_of}
+use Rattle.kola_match.specs.Finding.{Finds}
 use Rattle.kola_match.specs.Pairs.{Sides, AllGive}
 use Rattle.kola_match.specs.Occurring.{variable}
-use Rattle.kola_match.specs.Instances.{Instance, Decided, AllDeclared, AllFound, Spots}
+use Rattle.kola_match.specs.Instances.{Instance, Decided}
+use Rattle.kola_match.proofs.InstanceLaws.{AllFound}
+use Rattle.kola_match.specs.Spotting.{AllDeclared, Spots}
 use Rattle.kola_match.specs.Spotting.{IsOn, Spotted, AllTyped, AllPatternsTyped, FindsAll}
 use Rattle.kola_match.proofs.Closed.{AttributesClosed}
 use Rattle.kola_match.proofs.BindLaws.{found_extends}

@@ -7,7 +7,8 @@ use Rattle.kola_term.proofs.ByChildren.{nodes_by_children}
 use Rattle.kola_term.proofs.Inversions.{some_same}
 use Rattle.kola_match.specs.Nodes.{same_node, is_variable}
 use Rattle.kola_match.specs.Substitutions.{Substitution, inst}
-use Rattle.kola_match.specs.Pairs.{Sides, zipped, alike, Beside, AllSame, AllGive, variable_name, variable_like, same_kind}
+use Rattle.kola_match.specs.Pairs.{Sides, Beside, AllGive}
+use Rattle.kola_match.specs.Alike.{zipped, alike, variable_name, variable_like, same_kind}
 use Rattle.kola_match.proofs.NodeLaws.{nodes_equal, node_itself, instance_node, instance_children}
 
 -- ---- two lists side by side
@@ -32,6 +33,9 @@ module _ (g : TermTree → TermTree) where
       at r None k e = r k
   zipped_none [] (b ∷ bs) e h = absurd (cc)
   zipped_none (a ∷ as') [] e h = absurd (cc)
+
+abbrev pub AllSame : Sides → Type 0
+AllSame ps = Beside (λ t. t) ps
 
 same_each : (ts : List TermTree) → map (λ t. t) ts ≡ ts
 same_each [] = refl

@@ -9,9 +9,10 @@ use Rattle.kola_term.specs.Typing.{Context, MetaTree}
 use Rattle.kola_term.specs.ContextView.{meta_entry, context_of}
 use Rattle.kola_term.specs.declared.meta.MetaTy.{MetaTy}
 use Rattle.kola_match.specs.Substitutions.{Substitution}
-use Rattle.kola_match.specs.Binds.{Binds, Finds}
+use Rattle.kola_match.specs.Binds.{Binds}
+use Rattle.kola_match.specs.Finding.{Finds}
 use Rattle.kola_match.specs.Pairs.{Sides}
-use Rattle.kola_match.specs.Instances.{Spot, Spots, DemandAt, AllDemand}
+use Rattle.kola_match.specs.Spotting.{Spot, Spots, DemandAt, AllDemand}
 use Rattle.kola_match.specs.Spotting.{IsSpot, Spotted, OccursOn, AllOccurOn, FindsOne, FindsAll}
 use Rattle.kola_match.proofs.BindLaws.{finds_same, finds_then, finds_nothing_more}
 

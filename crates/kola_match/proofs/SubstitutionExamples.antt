@@ -1,11 +1,12 @@
 -- Substitutions of samples.
 use Rattle.std.proofs.Common.{pos}
-use Rattle.std.specs.Prelude.{◌≡◌, true, [], ◌∷◌, codes, refl}
+use Rattle.std.specs.Prelude.{◌≡◌, true, Some, None, [], ◌∷◌, codes, refl}
 use Rattle.kola_values.specs.Types.{TInt, TStr, TClass, TVar, TSet, TPair, TStruct, TEnd, TField}
 use Rattle.kola_values.specs.Databases.{Classes}
 use Rattle.kola_term.specs.Terms.{CInt, CExtent, CMeta, FId, FFst, FSnd, FAttr, FComp, FPair, FK, FC, FIf, FIterate, FNest, FMeta, PEq, PLt, PAt, POr, PNot, PKP, PCP, PMeta, TermF, TermP, TermC}
 use Rattle.kola_term.specs.Typing.{MFun, MPred, MConst}
 use Rattle.kola_match.specs.Substitutions.{Substitution, sub_type, inst, IsTyped}
+use Rattle.kola_match.specs.Instances.{given_by}
 
 -- each type variable is pairs of it with numbers, each variable is made of its name
 abbrev s : Substitution
@@ -42,3 +43,13 @@ is_typed = (refl, (refl, (refl, tt)))
 -- the attribute has another type
 not_typed : IsTyped schema [] typed ((codes "f", MFun (TVar (codes "a")) TInt) ∷ []) → ⊥
 not_typed t = absurd (cc)
+
+-- what a substitution gives for variables: the term, and the input type of a function or predicate
+given_fun : given_by s (codes "f") (MFun (TSet (TVar (codes "a"))) TStr) ≡ (TermF (FComp FFst (FAttr (codes "f"))), Some (TSet (TPair TInt (TVar (codes "a")))))
+given_fun = refl
+
+given_pred : given_by s (codes "p") (MPred (TVar (codes "b"))) ≡ (TermP (PAt PEq (FPair (FAttr (codes "p")) FId)), Some (TPair TInt (TVar (codes "b"))))
+given_pred = refl
+
+given_const : given_by s (codes "x") (MConst (TVar (codes "b"))) ≡ (TermC (CExtent (codes "x")), None)
+given_const = refl

@@ -1,9 +1,9 @@
--- What has been found for the variables of a rule, and what a matcher that had found something says of a demand.
-use Rattle.std.specs.Prelude.{◌≡◌, ◌↔◌, ℕ, Bool, true, false, List, [], ◌∷◌, Option, Some, None}
-use Rattle.kola_values.specs.Types.{TypeTree, TUnit, of_type_fields}
+-- What has been found for the variables of a rule, and its substitution.
+use Rattle.std.specs.Prelude.{◌≡◌, ℕ, true, List, [], ◌∷◌, Option, Some, None}
+use Rattle.kola_values.specs.Types.{TypeTree, TUnit}
 use Rattle.kola_values.specs.Databases.{look_up}
 use Rattle.kola_term.specs.Terms.{FunTree, FId, PredTree, PEq, ConstTree, CBool, TermTree, TermF, TermP, TermC}
-use Rattle.kola_match.specs.Substitutions.{Substitution, sub_types}
+use Rattle.kola_match.specs.Substitutions.{Substitution}
 
 abbrev pub Found : Type 0 → Type 0
 Found A = List (List ℕ × A)
@@ -35,11 +35,6 @@ substitution_of b = record {
   consts = λ n. or_else (CBool true) (look_up n b.consts);
 }
 
--- Of the substitutions that extend what was found before, exactly those that extend what is found now meet the demand; or none does.
-abbrev pub Finds : Bool → Binds → Binds → (Substitution → Type 0) → Type 0
-Finds true old new Q = (s : Substitution) → (Extends s new ↔ (Extends s old × Q s))
-Finds false old new Q = (s : Substitution) → Extends s old → Q s → ⊥
-
 -- ---- terms found for variables, newest last, by their kinds
 
 abbrev pub if_fun : TermTree → List ℕ → Found FunTree → Found FunTree
@@ -68,7 +63,3 @@ consts_in (e ∷ es) = if_const e.1 e.0 (consts_in es)
 
 abbrev pub binds : Found TypeTree → Found TermTree → Binds
 binds ts es = record { types = ts; funs = funs_in es; preds = preds_in es; consts = consts_in es }
-
--- the fields under s are the others
-abbrev pub FieldsGive : Substitution → List (List ℕ × TypeTree) → List (List ℕ × TypeTree) → Type 0
-FieldsGive s us vs = sub_types s.types (of_type_fields us) ≡ of_type_fields vs

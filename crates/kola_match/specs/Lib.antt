@@ -4,7 +4,9 @@ pub mod Occurring
 pub mod RuleOk
 pub mod Nodes
 pub mod Binds
+pub mod Finding
 pub mod Pairs
+pub mod Alike
 pub mod NodeViews
 pub mod FoundViews
 pub mod SubstViews
@@ -12,4 +14,5 @@ pub mod Leading
 pub mod Demanding
 pub mod Spotting
 pub mod Instances
+pub mod Giving
 pub mod RuleChecks

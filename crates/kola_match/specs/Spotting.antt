@@ -1,15 +1,17 @@
 -- Where the program finds the variables of a rule: each on a side that is given a term.
 use Rattle.std.specs.Prelude.{◌≡◌, ◌⊎◌, ℕ, Bool, true, false, List, [], ◌∷◌, Option, Some, None, take}
 use Rattle.kola_values.specs.Types.{TypeTree}
-use Rattle.kola_values.specs.Databases.{Classes}
+use Rattle.kola_values.specs.Databases.{Classes, look_up}
 use Rattle.kola_term.specs.Terms.{TermTree}
 use Rattle.kola_term.specs.Typing.{Context, MetaTree}
-use Rattle.kola_term.specs.Places.{sub_at, Typed}
+use Rattle.kola_term.specs.Places.{sub_at, place, Typed}
 use Rattle.kola_term.specs.Parts.{sub_tree}
-use Rattle.kola_match.specs.Binds.{Binds, Finds}
+use Rattle.kola_match.specs.Substitutions.{Substitution}
+use Rattle.kola_match.specs.Binds.{Binds}
+use Rattle.kola_match.specs.Finding.{Finds}
 use Rattle.kola_match.specs.Pairs.{Sides}
 use Rattle.kola_match.specs.Occurring.{variable, Occurs}
-use Rattle.kola_match.specs.Instances.{Spot, Spots, DemandAt, AllDemand}
+use Rattle.kola_match.specs.Demanding.{Demands}
 use Rattle.kola_match.specs.declared.declared.Side.{Side}
 
 abbrev pub side_of : Side → TermTree × TermTree
@@ -21,6 +23,25 @@ second_of None = []
 
 abbrev pub sides_of : Side → Option Side → Sides
 sides_of a o = side_of a ∷ second_of o
+
+-- each entry is the first of its name among all
+abbrev pub AllDeclared : Context → Context → Type 0
+AllDeclared all [] = Unit {0}
+AllDeclared all (v ∷ vs) = (look_up v.0 all ≡ Some v.1) × AllDeclared all vs
+
+-- a side, its term, and a path in both at which the variable stands
+abbrev pub Spot : Type 0
+Spot = TermTree × TermTree × List ℕ
+
+abbrev pub Spots : Type 0
+Spots = List ((List ℕ × MetaTree) × Spot)
+
+abbrev pub DemandAt : Classes → Context → TypeTree → (List ℕ × MetaTree) × Spot → Substitution → Type 0
+DemandAt S x T e s = Demands S x e.0.1 (sub_at e.1.1 e.1.2) (place S x e.1.1 T e.1.2) s
+
+abbrev pub AllDemand : Classes → Context → TypeTree → Spots → Substitution → Type 0
+AllDemand S x T [] s = Unit {0}
+AllDemand S x T (e ∷ es) s = DemandAt S x T e s × AllDemand S x T es s
 
 -- the spot is on one of the sides
 abbrev pub IsOn : Sides → TermTree → TermTree → Type 0

@@ -1,32 +1,29 @@
 -- The program's substitutions, as the definitions have what was found.
-use Rattle.std.specs.Prelude.{ℕ, List, map}
+use Rattle.std.specs.Prelude.{ℕ, List, Option, map, option_map}
 use Rattle.std.specs.Borrow.{Bor}
-use Rattle.kola_core.specs.declared.name.Name.{Name}
-use Rattle.kola_values.specs.Views.{type_entry}
-use Rattle.kola_term.specs.Terms.{FunTree, PredTree, ConstTree, TermTree}
-use Rattle.kola_term.specs.TermView.{const_tree, fun_tree, pred_tree, term_tree}
-use Rattle.kola_term.specs.declared.constant.Const.{Const}
-use Rattle.kola_term.specs.declared.term.Fun.{Fun}
-use Rattle.kola_term.specs.declared.term.Pred.{Pred}
+use Rattle.kola_values.specs.Types.{TypeTree}
+use Rattle.kola_values.specs.Views.{type_tree, type_entry}
+use Rattle.kola_term.specs.Terms.{TermTree}
+use Rattle.kola_term.specs.TermView.{term_tree}
 use Rattle.kola_term.specs.declared.term.Term.{Term}
-use Rattle.kola_match.specs.Binds.{Binds, binds}
+use Rattle.kola_match.specs.Binds.{Found, Binds, binds}
+use Rattle.kola_match.specs.declared.given.Bound.{Bound}
 use Rattle.kola_match.specs.declared.subst.Subst.{Subst}
 
--- a variable's name with its term
-abbrev pub term_entry : Name × Term → List ℕ × TermTree
-term_entry e = (e.0, term_tree e.1)
+-- a variable's name, and its term with its input type where it has one
+abbrev pub bound_entry : Bound → List ℕ × (TermTree × Option TypeTree)
+bound_entry b = (b.name, (term_tree b.term, option_map type_tree b.input))
+
+-- what the substitution has for variables
+abbrev pub bindings : Subst → Found (TermTree × Option TypeTree)
+bindings s = map bound_entry s.bound
+
+-- the same without the input types
+abbrev pub terms_of : Found (TermTree × Option TypeTree) → Found TermTree
+terms_of b = map (λ (e : List ℕ × (TermTree × Option TypeTree)). (e.0, e.1.0)) b
 
 abbrev pub found_binds : Subst → Binds
-found_binds s = binds (map type_entry s.types) (map term_entry s.terms)
+found_binds s = binds (map type_entry s.types) (terms_of (bindings s))
 
 abbrev pub term_at : Bor Term → TermTree
 term_at t = term_tree t.now
-
-abbrev pub fun_at : Bor Fun → FunTree
-fun_at f = fun_tree f.now
-
-abbrev pub pred_at : Bor Pred → PredTree
-pred_at p = pred_tree p.now
-
-abbrev pub const_at : Bor Const → ConstTree
-const_at c = const_tree c.now

@@ -6,10 +6,10 @@ ghost use Rattle.kola_term.specs.ContextView.{context_of, meta_tree};
 ghost use Rattle.kola_term.specs.TermView.{fun_tree, const_tree};
 ghost use Rattle.kola_term.specs.Parts.{sub_tree};
 ghost use Rattle.kola_term.specs.Places.{Typed, sub_at, place};
-ghost use Rattle.kola_match.specs.Binds.{Finds};
+ghost use Rattle.kola_match.specs.Finding.{Finds};
 ghost use Rattle.kola_match.specs.Demanding.{InputOf, FunDemand, ConstDemand};
 ghost use Rattle.kola_match.specs.FoundViews.{binds_of};
-ghost use Rattle.kola_match.specs.Instances.{Demands};
+ghost use Rattle.kola_match.specs.Demanding.{Demands};
 
 use crate::found::Found;
 use crate::matching::match_type;

@@ -2,11 +2,11 @@
 
 ghost use Rattle.std.specs.Prelude.{◌≡◌, ℕ, true, List, Some};
 ghost use Rattle.kola_values.specs.Types.{TypeTree};
-ghost use Rattle.kola_values.specs.Databases.{Classes};
+ghost use Rattle.kola_values.specs.Databases.{Classes, look_up};
 ghost use Rattle.kola_schema.specs.Schemas.{is_schema};
 ghost use Rattle.kola_term.specs.Terms.{TermTree};
 ghost use Rattle.kola_term.specs.Typing.{Context, MetaTree};
-ghost use Rattle.kola_term.specs.Places.{sub_at, place, put_in};
+ghost use Rattle.kola_term.specs.Places.{sub_at, place, put_in, Typed};
 ghost use Rattle.kola_term.specs.Agreement.{kind_out};
 ghost use Rattle.kola_match.specs.Occurring.{variable, Occurs};
 ghost use Rattle.kola_match.specs.Substitutions.{Substitution, sub_type, inst, IsTyped};
@@ -35,4 +35,14 @@ pub fn places_go_with_substitutions()
 pub fn instances_of_one_term_agree()
     ensures { (s o : Substitution) (p t : TermTree) (v : List ℕ × MetaTree) → inst s p ≡ t → inst o p ≡ t → Occurs p v →
         inst s (variable v.0 v.1) ≡ inst o (variable v.0 v.1) }
+{}
+
+/// Two substitutions that agree on each variable of a term give one instance of it; and each variable of a typed term is
+/// declared in the context, of its kind.
+pub fn variables_decide_instances()
+    ensures agree { (s o : Substitution) (p : TermTree) →
+        ((v : List ℕ × MetaTree) → Occurs p v → inst s (variable v.0 v.1) ≡ inst o (variable v.0 v.1)) → inst s p ≡ inst o p }
+    ensures declared { (S : Classes) (x : Context) (p : TermTree) (t : TypeTree) → Typed S x p t →
+        (n : List ℕ) (m : MetaTree) → Occurs p (n, m) →
+        (d : MetaTree) × (look_up n x ≡ Some d) × (variable n m ≡ variable n d) }
 {}

@@ -7,15 +7,15 @@ ghost use Rattle.kola_values.specs.Views.{type_tree};
 ghost use Rattle.kola_schema.specs.SchemaViews.{type_at};
 ghost use Rattle.kola_term.specs.Parts.{sub_tree};
 ghost use Rattle.kola_match.specs.Substitutions.{inst, sub_type};
-ghost use Rattle.kola_match.specs.Binds.{Finds};
-ghost use Rattle.kola_match.specs.Pairs.{first_like, variable_like};
-ghost use Rattle.kola_match.specs.NodeViews.{part_at, part_entry};
+ghost use Rattle.kola_match.specs.Finding.{Finds};
+ghost use Rattle.kola_match.specs.Alike.{first_like, variable_like};
+ghost use Rattle.kola_match.specs.NodeViews.{part_entry, fun_at, pred_at, const_at};
 ghost use Rattle.kola_match.specs.FoundViews.{binds_of};
 
 use crate::nodes::same_kind;
 use crate::pairs::same_part;
 use kola_core::{Memory, Name};
-use kola_term::SubTerm;
+use kola_term::{Const, Fun, Pred, SubTerm};
 use kola_values::Ty;
 use std::alloc::Global;
 
@@ -45,6 +45,48 @@ impl<'t> Found<'t> {
         for (known, part) in &self.parts {
             if name.is(known) && same_kind(like, *part) {
                 return Some(*part);
+            }
+        }
+        None
+    }
+
+    /// The function that was found for the function variable.
+    pub(crate) fn fun_of(&self, name: &Name) -> Option<&'t Fun>
+        ensures { option_map fun_at result ≡ look_up name.now (binds_of self.now).funs }
+    {
+        for (known, part) in &self.parts {
+            if let SubTerm::F(f) = *part {
+                if name.is(known) {
+                    return Some(f);
+                }
+            }
+        }
+        None
+    }
+
+    /// The predicate that was found for the predicate variable.
+    pub(crate) fn pred_of(&self, name: &Name) -> Option<&'t Pred>
+        ensures { option_map pred_at result ≡ look_up name.now (binds_of self.now).preds }
+    {
+        for (known, part) in &self.parts {
+            if let SubTerm::P(p) = *part {
+                if name.is(known) {
+                    return Some(p);
+                }
+            }
+        }
+        None
+    }
+
+    /// The constant that was found for the constant variable.
+    pub(crate) fn const_of(&self, name: &Name) -> Option<&'t Const>
+        ensures { option_map const_at result ≡ look_up name.now (binds_of self.now).consts }
+    {
+        for (known, part) in &self.parts {
+            if let SubTerm::C(c) = *part {
+                if name.is(known) {
+                    return Some(c);
+                }
             }
         }
         None

@@ -1,6 +1,6 @@
 //! The instances of a rule at a term.
 
-ghost use Rattle.std.specs.Prelude.{◌≡◌, ◌↔◌, ◌+◌, ◌-◌, ◌^◌, ◌∷◌, [], ℕ, List, true, min, IfOk};
+ghost use Rattle.std.specs.Prelude.{◌≡◌, ◌↔◌, ◌+◌, ◌-◌, ◌^◌, ◌∷◌, [], ℕ, List, true, min, IfOk, IfSome};
 ghost use Rattle.std.specs.Option.{option_map};
 ghost use Rattle.kola_values.specs.Sets.{Each};
 ghost use Rattle.kola_values.specs.Views.{type_tree};
@@ -12,11 +12,12 @@ ghost use Rattle.kola_term.specs.Typing.{MetaTree};
 ghost use Rattle.kola_rule.specs.RuleViews.{rule_tree};
 ghost use Rattle.kola_match.specs.Occurring.{Occurs};
 ghost use Rattle.kola_match.specs.RuleOk.{RuleOk};
-ghost use Rattle.kola_match.specs.Instances.{Decided, pattern_side, other_side};
-ghost use Rattle.kola_match.specs.SubstViews.{found_binds};
+ghost use Rattle.kola_match.specs.Binds.{substitution_of};
+ghost use Rattle.kola_match.specs.Instances.{Decided, HasVariables, pattern_side, other_side};
+ghost use Rattle.kola_match.specs.SubstViews.{bindings, found_binds};
 
 use crate::declared::Side;
-use crate::matched::matched;
+use crate::matched::instance_of;
 use crate::subst::Subst;
 use crate::well_typed::all_occur;
 use kola_core::Memory;
@@ -99,8 +100,9 @@ pub fn binds_all_variables(alloc: Global, rule: &Rule, rev: bool) -> Result<bool
 }
 
 /// What an instance of the rule gives for its variables, where the side that is matched gives the term, at its type in
-/// a context; `None` exactly where there is no instance. With `rev` the right side is matched. The tally rises by one,
-/// whatever is answered. Where a node of the term differs from the side's it takes no memory.
+/// a context: the term of each, and the input type of a function or predicate; `None` exactly where there is no instance.
+/// With `rev` the right side is matched. The tally rises by one, whatever is answered. Where a node of the term differs
+/// from the side's it takes no memory.
 pub fn match_at(
     alloc: Global,
     schema: &Schema,
@@ -120,22 +122,21 @@ pub fn match_at(
         (type_tree rule.now.input)
         (type_tree ty.now) ((pattern_side (rule_tree rule.now) rev, sub_tree t.entry) ∷ [])
         (option_map found_binds o)) }
+    ensures variables { IfOk result (λ o. IfSome o (λ s. HasVariables (context_of rule.now.vars)
+        (substitution_of (found_binds s)) (bindings s))) }
 {
     tally.rise();
     let side = Side {
         pattern: pattern_of(rule, rev),
         part: t,
     };
-    let Some(found) = matched(alloc, schema, ctx, &rule.vars, &rule.input, side, None, ty)? else {
-        return Ok(None);
-    };
-    let subst = Subst::of_found(alloc, &found)?;
-    Ok(Some(subst))
+    let found = instance_of(alloc, schema, ctx, &rule.vars, &rule.input, side, None, ty)?;
+    Ok(found)
 }
 
 /// What an instance of the rule gives for its variables, where the side that is matched gives the first term and the
-/// other side the second, both at their type in a context; `None` exactly where no one instance gives both. With `rev`
-/// the right side is matched.
+/// other side the second, both at their type in a context: the term of each, and the input type of a function or
+/// predicate; `None` exactly where no one instance gives both. With `rev` the right side is matched.
 pub fn match_both(
     alloc: Global,
     schema: &Schema,
@@ -149,7 +150,7 @@ pub fn match_both(
     requires ok { RuleOk schema.now (rule_tree rule.now) }
     requires first { Typed schema.now (context_of ctx.now) (sub_tree t1) (type_tree ty.now) }
     requires second { Typed schema.now (context_of ctx.now) (sub_tree t2) (type_tree ty.now) }
-    ensures { IfOk result (λ o. Decided schema.now (context_of ctx.now) (context_of rule.now.vars)
+    ensures found { IfOk result (λ o. Decided schema.now (context_of ctx.now) (context_of rule.now.vars)
         (type_tree rule.now.input)
         (type_tree ty.now)
         ((pattern_side (rule_tree rule.now) rev, sub_tree t1.entry) ∷ (
@@ -158,6 +159,8 @@ pub fn match_both(
           sub_tree t2.entry,
         ) ∷ [])
         (option_map found_binds o)) }
+    ensures variables { IfOk result (λ o. IfSome o (λ s. HasVariables (context_of rule.now.vars)
+        (substitution_of (found_binds s)) (bindings s))) }
 {
     let first = Side {
         pattern: pattern_of(rule, rev),
@@ -167,7 +170,7 @@ pub fn match_both(
         pattern: other_of(rule, rev),
         part: t2,
     };
-    let found = matched(
+    let found = instance_of(
         alloc,
         schema,
         ctx,
@@ -177,9 +180,5 @@ pub fn match_both(
         Some(second),
         ty,
     )?;
-    let Some(found) = found else {
-        return Ok(None);
-    };
-    let subst = Subst::of_found(alloc, &found)?;
-    Ok(Some(subst))
+    Ok(found)
 }

@@ -6,6 +6,7 @@ mod demand;
 mod facts;
 mod find;
 mod found;
+mod given;
 mod instance;
 mod matched;
 mod matching;
@@ -16,6 +17,7 @@ mod well_typed;
 
 pub use facts::{
     instances_of_one_term_agree, places_go_with_substitutions, typed_substitutions_keep_types,
+    variables_decide_instances,
 };
 pub use instance::{Tally, binds_all_variables, match_at, match_both};
 pub use subst::{Subst, instantiate};

@@ -4,7 +4,7 @@ ghost use Rattle.std.specs.Prelude.{◌≡◌, IfOk, false, map};
 ghost use Rattle.kola_values.specs.Views.{type_tree, type_entry};
 ghost use Rattle.kola_term.specs.Parts.{sub_tree};
 ghost use Rattle.kola_match.specs.Substitutions.{Substitution, inst, sub_type};
-ghost use Rattle.kola_match.specs.Binds.{Finds, FieldsGive};
+ghost use Rattle.kola_match.specs.Finding.{Finds, FieldsGive};
 ghost use Rattle.kola_match.specs.FoundViews.{binds_of};
 
 use crate::found::Found;

@@ -5,7 +5,7 @@ ghost use Rattle.std.specs.Option.{option_map};
 ghost use Rattle.kola_term.specs.TermView.{const_tree, fun_tree, pred_tree};
 ghost use Rattle.kola_term.specs.Parts.{sub_tree};
 ghost use Rattle.kola_match.specs.Nodes.{alike_funs, alike_preds, same_const, same_node};
-ghost use Rattle.kola_match.specs.Pairs.{same_kind, variable_name};
+ghost use Rattle.kola_match.specs.Alike.{same_kind, variable_name};
 ghost use Rattle.kola_match.specs.NodeViews.{name_at};
 
 use kola_core::Name;

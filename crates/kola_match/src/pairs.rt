@@ -3,7 +3,7 @@
 ghost use Rattle.std.specs.Prelude.{◌≡◌, ◌↔◌, true};
 ghost use Rattle.std.specs.Option.{option_map};
 ghost use Rattle.kola_term.specs.Parts.{sub_tree, child_trees};
-ghost use Rattle.kola_match.specs.Pairs.{alike, pair_trees, zipped};
+ghost use Rattle.kola_match.specs.Alike.{alike, pair_trees, zipped};
 
 use crate::nodes::same_node;
 use kola_term::{Children, SubTerm};

@@ -1,84 +1,70 @@
 //! Substitutions that were found, and sides of rules under them.
 
-ghost use Rattle.std.specs.Prelude.{◌≡◌, [], map, IfOk};
+ghost use Rattle.std.specs.Prelude.{◌≡◌, map, IfOk, option_and_then};
 ghost use Rattle.std.specs.Option.{option_map};
 ghost use Rattle.kola_values.specs.Databases.{look_up};
 ghost use Rattle.kola_values.specs.Views.{type_entry};
+ghost use Rattle.kola_schema.specs.SchemaViews.{type_at};
+ghost use Rattle.kola_term.specs.ContextView.{context_of};
 ghost use Rattle.kola_term.specs.TermView.{const_tree, fun_tree, pred_tree, term_tree};
-ghost use Rattle.kola_term.specs.Parts.{sub_tree};
 ghost use Rattle.kola_match.specs.Substitutions.{inst, inst_const, inst_fun, inst_pred};
 ghost use Rattle.kola_match.specs.Binds.{substitution_of};
 ghost use Rattle.kola_match.specs.FoundViews.{binds_of};
-ghost use Rattle.kola_match.specs.NodeViews.{part_entry};
-ghost use Rattle.kola_match.specs.SubstViews.{found_binds, term_entry, term_at, fun_at, pred_at, const_at};
+ghost use Rattle.kola_match.specs.Giving.{given};
+ghost use Rattle.kola_match.specs.NodeViews.{fun_at, pred_at, const_at};
+ghost use Rattle.kola_match.specs.SubstViews.{bindings, found_binds, term_at};
 
 use crate::found::Found;
+use crate::given::{Bound, all_bound};
 use kola_core::{Items, Memory, Name};
-use kola_term::{Const, Fun, Pred, SubTerm, Term};
+use kola_term::{Const, Fun, MetaCtx, Pred, Term};
 use kola_values::Ty;
 use std::alloc::Global;
 
-/// A type for each type variable and a term for each variable of a rule, as a match has found them.
+/// The instance that a match has found: a type for each type variable of a rule, and for each variable its term and, for a
+/// function or predicate, its input type.
 #[derive(Drop)]
 pub struct Subst {
     types: Items<(Name, Ty)>,
-    terms: Items<(Name, Term)>,
-}
-
-/// A copy of a part of a term.
-fn copied(part: SubTerm) -> Result<Term, Memory>
-    ensures { IfOk result (λ t. term_tree t ≡ sub_tree part.entry) }
-{
-    match part {
-        SubTerm::F(f) => Ok(Term::F(f.copy()?)),
-        SubTerm::P(p) => Ok(Term::P(p.copy()?)),
-        SubTerm::C(c) => Ok(Term::C(c.copy()?)),
-    }
-}
-
-/// Variables with copies of their parts.
-fn copied_terms(alloc: Global, parts: &[(Name, SubTerm)]) -> Result<Items<(Name, Term)>, Memory>
-    ensures { IfOk result (λ r. map term_entry r ≡ map part_entry parts.now) }
-{
-    let mut terms = Items::new(alloc);
-    for (name, part) in parts {
-        let name = name.copy()?;
-        let term = copied(*part)?;
-        terms.push((name, term))?;
-    }
-    Ok(terms)
-}
-
-/// Copies of type variables with their types.
-fn copied_types(alloc: Global, types: &[(Name, Ty)]) -> Result<Items<(Name, Ty)>, Memory>
-    ensures { IfOk result (λ r. map type_entry r ≡ map type_entry types.now) }
-{
-    let mut copies = Items::new(alloc);
-    for (name, t) in types {
-        let name = name.copy()?;
-        let t = t.copy()?;
-        copies.push((name, t))?;
-    }
-    Ok(copies)
+    bound: Items<Bound>,
 }
 
 impl Subst {
-    /// What was found, with copies of the parts that were lent.
-    pub(crate) fn of_found(alloc: Global, found: &Found) -> Result<Subst, Memory>
-        ensures { IfOk result (λ s. found_binds s ≡ binds_of found.now) }
+    /// What was found, as an instance gives it to the declared variables.
+    pub(crate) fn of_found(alloc: Global, vars: &MetaCtx, found: Found) -> Result<Subst, Memory>
+        ensures types { IfOk result (λ s. map type_entry s.types ≡ (binds_of found.entry).types) }
+        ensures bound { IfOk result
+            (λ s. bindings s ≡ given (substitution_of (binds_of found.entry)) (context_of vars.now)) }
     {
-        let types = copied_types(alloc, found.types.as_slice())?;
-        let terms = copied_terms(alloc, found.parts.as_slice())?;
-        Ok(Subst { types, terms })
+        let bound = all_bound(alloc, vars, &found)?;
+        let Found {
+            types,
+            parts: _parts,
+        } = found;
+        let types = Items::from_vec(types);
+        Ok(Subst { types, bound })
     }
 
-    /// The term of a variable; `None` where the substitution has none.
+    /// The term of a variable of the rule; `None` exactly where the rule declares no variable of the name.
     pub fn term_of(&self, var: &Name) -> Option<&Term>
-        ensures { option_map term_at result ≡ look_up var.now (map term_entry self.now.terms) }
+        ensures { option_map term_at result ≡ option_map (λ b. b.0) (look_up var.now (bindings self.now)) }
     {
-        for (known, term) in self.terms.as_slice() {
-            if var.is(known) {
-                return Some(term);
+        for known in self.bound.as_slice() {
+            if var.is(&known.name) {
+                return Some(&known.term);
+            }
+        }
+        None
+    }
+
+    /// The input type of a variable's term under the instance; `None` exactly where the rule declares no function or
+    /// predicate variable of the name.
+    pub fn input_of(&self, var: &Name) -> Option<&Ty>
+        ensures { option_map type_at result ≡ option_and_then (λ b. b.1) (look_up var.now (bindings self.now)) }
+    {
+        for known in self.bound.as_slice() {
+            if var.is(&known.name) {
+                return known.input.as_ref();
             }
         }
         None
@@ -88,9 +74,9 @@ impl Subst {
     fn fun_of(&self, var: &Name) -> Option<&Fun>
         ensures { option_map fun_at result ≡ look_up var.now (found_binds self.now).funs }
     {
-        for (known, term) in self.terms.as_slice() {
-            if let Term::F(f) = term {
-                if var.is(known) {
+        for known in self.bound.as_slice() {
+            if let Term::F(f) = &known.term {
+                if var.is(&known.name) {
                     return Some(f);
                 }
             }
@@ -102,9 +88,9 @@ impl Subst {
     fn pred_of(&self, var: &Name) -> Option<&Pred>
         ensures { option_map pred_at result ≡ look_up var.now (found_binds self.now).preds }
     {
-        for (known, term) in self.terms.as_slice() {
-            if let Term::P(p) = term {
-                if var.is(known) {
+        for known in self.bound.as_slice() {
+            if let Term::P(p) = &known.term {
+                if var.is(&known.name) {
                     return Some(p);
                 }
             }
@@ -116,9 +102,9 @@ impl Subst {
     fn const_of(&self, var: &Name) -> Option<&Const>
         ensures { option_map const_at result ≡ look_up var.now (found_binds self.now).consts }
     {
-        for (known, term) in self.terms.as_slice() {
-            if let Term::C(c) = term {
-                if var.is(known) {
+        for known in self.bound.as_slice() {
+            if let Term::C(c) = &known.term {
+                if var.is(&known.name) {
                     return Some(c);
                 }
             }
@@ -220,8 +206,8 @@ fn boxed_pred(alloc: Global, p: &Pred, s: &Subst) -> Result<Box<Pred>, Memory>
     Ok(boxed)
 }
 
-/// A side of a rule under a substitution that was found. A variable of which the substitution knows nothing becomes
-/// `id`, `eq` or `true`, by its kind.
+/// A side of a rule under a substitution that was found. A variable of which the substitution has nothing becomes `id`,
+/// `eq` or `true`, by its kind; for the variables of the rule that was matched it always has a term.
 pub fn instantiate(alloc: Global, side: &Term, s: &Subst) -> Result<Term, Memory>
     ensures { IfOk result (λ r. term_tree r ≡ inst (substitution_of (found_binds s.now)) (term_tree side.now)) }
 {

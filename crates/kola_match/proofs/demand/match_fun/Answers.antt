@@ -4,7 +4,7 @@ use Rattle.kola_term.specs.ContextView.{context_of}
 use Rattle.kola_term.specs.TermView.{fun_tree}
 use Rattle.kola_term.specs.Typing.{out}
 use Rattle.kola_match.specs.Substitutions.{sub_type}
-use Rattle.kola_match.specs.Binds.{Finds}
+use Rattle.kola_match.specs.Finding.{Finds}
 use Rattle.kola_match.specs.FoundViews.{binds_of}
 use Rattle.kola_match.proofs.BindLaws.{finds_same, finds_then, if_ok}
 use Rattle.kola_match.proofs.FieldLaws.{known_demand}

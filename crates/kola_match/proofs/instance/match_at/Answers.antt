@@ -5,10 +5,10 @@ use Rattle.kola_match.specs.Spotting.{AllOccurOn}
 use Rattle.kola_match.proofs.InstanceConditions.{all_declared, occur_on}
 use Rattle.kola_match.proofs.instance.match_at.Goals as goal
 
-pub matched-requires-clause-occur : goal.matched-requires-clause-occur
-matched-requires-clause-occur c =
+pub instance_of-requires-clause-occur : goal.instance_of-requires-clause-occur
+instance_of-requires-clause-occur c =
     let vars = context_of c.args.rule.now.vars in
     subst (λ z. AllOccurOn ((z, sub_tree c.args.t) ∷ []) vars) (sym c.pattern_of.ensures) (occur_on _ (sub_tree c.args.t) vars c.requires.occur)
 
-pub matched-requires-clause-declared : goal.matched-requires-clause-declared
-matched-requires-clause-declared c = all_declared (context_of c.args.rule.now.vars) c.requires.ok.distinct
+pub instance_of-requires-clause-declared : goal.instance_of-requires-clause-declared
+instance_of-requires-clause-declared c = all_declared (context_of c.args.rule.now.vars) c.requires.ok.distinct

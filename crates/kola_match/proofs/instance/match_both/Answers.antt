@@ -7,8 +7,8 @@ use Rattle.kola_match.specs.Spotting.{AllOccurOn}
 use Rattle.kola_match.proofs.InstanceConditions.{all_declared, occur_on_either}
 use Rattle.kola_match.proofs.instance.match_both.Goals as goal
 
-pub matched-requires-clause-occur : goal.matched-requires-clause-occur
-matched-requires-clause-occur c =
+pub instance_of-requires-clause-occur : goal.instance_of-requires-clause-occur
+instance_of-requires-clause-occur c =
     let vars = context_of c.args.rule.now.vars in
     let r = rule_tree c.args.rule.now in
     let t = sub_tree c.args.t1 in
@@ -16,5 +16,5 @@ matched-requires-clause-occur c =
     subst (λ z. AllOccurOn ((z, t) ∷ (sub_tree c.other_of.result, u) ∷ []) vars) (sym c.pattern_of.ensures)
     (subst (λ z. AllOccurOn ((pattern_side r c.args.rev, t) ∷ (z, u) ∷ []) vars) (sym c.other_of.ensures) (occur_on_either r c.args.rev t u vars c.requires.ok.occur))
 
-pub matched-requires-clause-declared : goal.matched-requires-clause-declared
-matched-requires-clause-declared c = all_declared (context_of c.args.rule.now.vars) c.requires.ok.distinct
+pub instance_of-requires-clause-declared : goal.instance_of-requires-clause-declared
+instance_of-requires-clause-declared c = all_declared (context_of c.args.rule.now.vars) c.requires.ok.distinct

@@ -2,7 +2,7 @@ use Rattle.std.proofs.Common.{◌≡◌, true, Some, None, sym, subst}
 use Rattle.kola_term.specs.Parts.{sub_tree}
 use Rattle.kola_match.specs.Substitutions.{inst}
 use Rattle.kola_match.specs.Pairs.{AllGive}
-use Rattle.kola_match.specs.Binds.{Finds}
+use Rattle.kola_match.specs.Finding.{Finds}
 use Rattle.kola_match.specs.FoundViews.{binds_of}
 use Rattle.kola_match.specs.Spotting.{sides_of}
 use Rattle.kola_match.proofs.BindLaws.{finds_same, finds_then, if_ok}

@@ -4,7 +4,8 @@ use Rattle.kola_term.specs.ContextView.{context_of}
 use Rattle.kola_match.specs.Substitutions.{sub_type}
 use Rattle.kola_match.specs.NodeViews.{part_entry}
 use Rattle.kola_match.specs.Pairs.{AllGive}
-use Rattle.kola_match.specs.Binds.{Finds, binds}
+use Rattle.kola_match.specs.Binds.{binds}
+use Rattle.kola_match.specs.Finding.{Finds}
 use Rattle.kola_match.specs.FoundViews.{binds_of}
 use Rattle.kola_match.specs.Spotting.{sides_of, FindsAll}
 use Rattle.kola_match.proofs.Closed.{schema_closed}

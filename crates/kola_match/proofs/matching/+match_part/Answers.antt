@@ -1,8 +1,8 @@
 use Rattle.std.proofs.Common.{◌≡◌, true, false, Some, [], ◌∷◌, sym, ap, subst, ◌∙◌, arith}
 use Rattle.kola_term.specs.Parts.{sub_tree}
 use Rattle.kola_match.specs.Substitutions.{inst}
-use Rattle.kola_match.specs.Pairs.{pair_trees}
-use Rattle.kola_match.specs.Binds.{Finds}
+use Rattle.kola_match.specs.Alike.{pair_trees}
+use Rattle.kola_match.specs.Finding.{Finds}
 use Rattle.kola_match.specs.FoundViews.{binds_of}
 use Rattle.kola_match.proofs.PairLaws.{one_nodes, two_nodes, three_nodes, gives, gives_none, variable_is}
 use Rattle.kola_match.proofs.BindLaws.{finds_nothing_more, finds_same, finds_then, if_ok}

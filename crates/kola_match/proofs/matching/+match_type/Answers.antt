@@ -4,7 +4,7 @@ use Rattle.kola_values.specs.Types.{TSet, TPair, TStruct, of_type_fields}
 use Rattle.kola_values.specs.Views.{type_tree, type_entry}
 use Rattle.kola_values.proofs.Loops.{type_entry_falls}
 use Rattle.kola_match.specs.Substitutions.{sub_type}
-use Rattle.kola_match.specs.Binds.{Finds}
+use Rattle.kola_match.specs.Finding.{Finds}
 use Rattle.kola_match.specs.FoundViews.{binds_of}
 use Rattle.kola_match.proofs.BindLaws.{finds_same, finds_then, if_ok}
 use Rattle.kola_match.proofs.FieldLaws.{other_lengths, other_label, other_type, field_taken, fields_end, set_demand, pair_demand, struct_demand}

@@ -1,6 +1,6 @@
 use Rattle.std.proofs.Common.{Some, sym, ap, ◌∙◌, arith}
 use Rattle.kola_term.specs.Parts.{sub_tree}
-use Rattle.kola_match.specs.Pairs.{pair_trees}
+use Rattle.kola_match.specs.Alike.{pair_trees}
 use Rattle.kola_match.proofs.PairLaws.{one_nodes, two_nodes, three_nodes, no_pairs, leaf_same, one_same, two_same, three_same}
 use Rattle.kola_match.proofs.pairs.+same_part.Goals as goal
 

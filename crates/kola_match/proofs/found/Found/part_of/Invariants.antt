@@ -1,6 +1,6 @@
 use Rattle.std.proofs.Common.{◌≡◌, drop, map}
 use Rattle.kola_term.specs.Parts.{sub_tree}
-use Rattle.kola_match.specs.Pairs.{first_like}
+use Rattle.kola_match.specs.Alike.{first_like}
 use Rattle.kola_match.specs.NodeViews.{part_entry}
 use Rattle.kola_match.proofs.found.Found.part_of.Given as goal
 

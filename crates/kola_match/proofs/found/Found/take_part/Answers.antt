@@ -3,8 +3,9 @@ use Rattle.std.proofs.lemmas.List.{map_push}
 use Rattle.kola_values.specs.Views.{type_entry}
 use Rattle.kola_term.specs.Parts.{sub_tree}
 use Rattle.kola_match.specs.Substitutions.{inst}
-use Rattle.kola_match.specs.Binds.{Finds, binds}
-use Rattle.kola_match.specs.Pairs.{variable_like}
+use Rattle.kola_match.specs.Binds.{binds}
+use Rattle.kola_match.specs.Finding.{Finds}
+use Rattle.kola_match.specs.Alike.{variable_like}
 use Rattle.kola_match.specs.NodeViews.{part_entry}
 use Rattle.kola_match.proofs.BindLaws.{taken_known, taken_new}
 use Rattle.kola_match.proofs.found.Found.take_part.Goals as goal

@@ -1,7 +1,8 @@
 use Rattle.std.proofs.Common.{◌≡◌, map, true, sym, subst, ap, ◌∙◌, ◌++◌, ◌∷◌, []}
 use Rattle.std.proofs.lemmas.List.{map_push}
 use Rattle.kola_values.specs.Views.{type_tree, type_entry}
-use Rattle.kola_match.specs.Binds.{Finds, binds}
+use Rattle.kola_match.specs.Binds.{binds}
+use Rattle.kola_match.specs.Finding.{Finds}
 use Rattle.kola_match.specs.NodeViews.{part_entry}
 use Rattle.kola_match.proofs.BindLaws.{type_known, type_new}
 use Rattle.kola_match.proofs.found.Found.take_type.Goals as goal

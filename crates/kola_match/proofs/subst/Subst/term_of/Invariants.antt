@@ -1,7 +1,7 @@
 use Rattle.std.proofs.Common.{◌≡◌, drop, map}
 use Rattle.kola_values.specs.Databases.{look_up}
-use Rattle.kola_match.specs.SubstViews.{term_entry}
+use Rattle.kola_match.specs.SubstViews.{bound_entry}
 use Rattle.kola_match.proofs.subst.Subst.term_of.Given as goal
 
 abbrev pub invariant-loop-known : goal.invariant-loop-known
-invariant-loop-known l = look_up l.var (map term_entry l.self.terms) ≡ look_up l.var (map term_entry (drop l.known-index l.self.terms))
+invariant-loop-known l = look_up l.var (map bound_entry l.self.bound) ≡ look_up l.var (map bound_entry (drop l.known-index l.self.bound))

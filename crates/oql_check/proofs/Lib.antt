@@ -1,0 +1,10 @@
+pub mod Checks
+pub mod TypedBy
+pub mod TypesFor
+pub mod Means
+pub mod SmallTypes
+pub mod OneFault
+mod QueryExamples
+mod TypeExamples
+mod FaultExamples
+mod MeaningExamples

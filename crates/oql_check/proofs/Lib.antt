@@ -4,6 +4,8 @@ pub mod TypesFor
 pub mod Means
 pub mod SmallTypes
 pub mod OneFault
+mod Sizes
+mod CheckLoops
 mod QueryExamples
 mod TypeExamples
 mod FaultExamples

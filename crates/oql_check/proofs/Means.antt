@@ -41,12 +41,12 @@ module _ (d : Objects) where
   named_none x [] (n ∷ ns) h e = absurd h
   named_none x (e ∷ es) [] h k = absurd h
 
-  extent_typed : (o : Option (List ℕ)) (c : List ℕ) → o ≡ Some c → HasType d (extent_value d o) (TSet (TClass c))
+  pub extent_typed : (o : Option (List ℕ)) (c : List ℕ) → o ≡ Some c → HasType d (extent_value d o) (TSet (TClass c))
   extent_typed o c e = subst (λ p. HasType d (extent_value d p) (TSet (TClass c))) (sym e) (extent_at d (Some c) (TSet (TClass c)) refl)
 
   -- ---- literals
 
-  literal_typed : (t : TypeTree) (l : LitTree) → IsLiteral t l → HasType d (literal_value l) t
+  pub literal_typed : (t : TypeTree) (l : LitTree) → IsLiteral t l → HasType d (literal_value l) t
   literal_typed TInt (LitInt n) h = h
   literal_typed TStr (LitStr s) h = tt
   literal_typed TBool (LitBool b) h = tt
@@ -81,11 +81,11 @@ module _ (d : Objects) where
 
   -- ---- chains
 
-  sets_typed : (b : Bool) (t : TypeTree) (v w : ValueTree) → HasType d v (TSet t) → HasType d w (TSet t) → HasType d (union_except_value b v w) (TSet t)
+  pub sets_typed : (b : Bool) (t : TypeTree) (v w : ValueTree) → HasType d v (TSet t) → HasType d w (TSet t) → HasType d (union_except_value b v w) (TSet t)
   sets_typed true t v w h k = set_typed d t (filter (λ x. not (has x (members w))) (members v)) (each_filter _ (λ x. not (has x (members w))) (members v) (members_typed d t v h))
   sets_typed false t v w h k = set_typed d t (members v ++ members w) (each_append _ (members v) (members w) (members_typed d t v h) (members_typed d t w k))
 
-  intersection_typed : (t : TypeTree) (v w : ValueTree) → HasType d v (TSet t) → HasType d (intersect_value v w) (TSet t)
+  pub intersection_typed : (t : TypeTree) (v w : ValueTree) → HasType d v (TSet t) → HasType d (intersect_value v w) (TSet t)
   intersection_typed t v w h = set_typed d t (filter (λ x. has x (members w)) (members v)) (each_filter _ (λ x. has x (members w)) (members v) (members_typed d t v h))
 
   -- ---- all queries
@@ -122,27 +122,27 @@ module _ (d : Objects) where
           set_typed d t (map (mean S d hd) (filter (holds S d w) (rows S d rs env)))
           (each_map _ (λ row. Fills d row ms) (mean S d hd) (filter (holds S d w) (rows S d rs env)) (each_filter _ (holds S d w) (rows S d rs env) (rows_typed p env h)) (λ row g. mean_typed q row g))
 
-      intersects_typed : {ns : Scope} {t u : TypeTree} {ls : QueryLinks} → SetsJoin S ns t ls u → (v : ValueTree) (env : Env) → Fills d env ns → HasType d v t → HasType d (links_value S d intersect_value v ls env) u
+      pub intersects_typed : {ns : Scope} {t u : TypeTree} {ls : QueryLinks} → SetsJoin S ns t ls u → (v : ValueTree) (env : Env) → Fills d env ns → HasType d v t → HasType d (links_value S d intersect_value v ls env) u
       intersects_typed s_end v env h g = g
       intersects_typed (s_link {e = e} {t = t} q k) v env h g = intersects_typed k (intersect_value v (mean S d e env)) env h (intersection_typed t v (mean S d e env) g)
 
-      ands_typed : {ns : Scope} {t u : TypeTree} {ls : QueryLinks} → BoolsJoin S ns t ls u → (v : ValueTree) (env : Env) → Fills d env ns → HasType d v t → HasType d (links_value S d and_value v ls env) u
+      pub ands_typed : {ns : Scope} {t u : TypeTree} {ls : QueryLinks} → BoolsJoin S ns t ls u → (v : ValueTree) (env : Env) → Fills d env ns → HasType d v t → HasType d (links_value S d and_value v ls env) u
       ands_typed b_end v env h g = g
       ands_typed (b_link {e = e} q k) v env h g = ands_typed k (and_value v (mean S d e env)) env h tt
 
-      ors_typed : {ns : Scope} {t u : TypeTree} {ls : QueryLinks} → BoolsJoin S ns t ls u → (v : ValueTree) (env : Env) → Fills d env ns → HasType d v t → HasType d (links_value S d or_value v ls env) u
+      pub ors_typed : {ns : Scope} {t u : TypeTree} {ls : QueryLinks} → BoolsJoin S ns t ls u → (v : ValueTree) (env : Env) → Fills d env ns → HasType d v t → HasType d (links_value S d or_value v ls env) u
       ors_typed b_end v env h g = g
       ors_typed (b_link {e = e} q k) v env h g = ors_typed k (or_value v (mean S d e env)) env h tt
 
-      unions_typed : {ns : Scope} {t u : TypeTree} {ls : SetLinks} → UnionsJoin S ns t ls u → (v : ValueTree) (env : Env) → Fills d env ns → HasType d v t → HasType d (set_links_value S d v ls env) u
+      pub unions_typed : {ns : Scope} {t u : TypeTree} {ls : SetLinks} → UnionsJoin S ns t ls u → (v : ValueTree) (env : Env) → Fills d env ns → HasType d v t → HasType d (set_links_value S d v ls env) u
       unions_typed u_end v env h g = g
       unions_typed (u_link {except = b} {e = e} {t = t} q k) v env h g = unions_typed k (union_except_value b v (mean S d e env)) env h (sets_typed b t v (mean S d e env) g (mean_typed q env h))
 
-      fields_typed : {ns : Scope} {before : List (List ℕ)} {fs : QueryFields} {ts : FieldTypes} → HaveQueryTypes S ns before fs ts → (env : Env) → Fills d env ns → HaveTypes d (fields_value S d fs env) ts
+      pub fields_typed : {ns : Scope} {before : List (List ℕ)} {fs : QueryFields} {ts : FieldTypes} → HaveQueryTypes S ns before fs ts → (env : Env) → Fills d env ns → HaveTypes d (fields_value S d fs env) ts
       fields_typed f_end env h = tt
       fields_typed (f_field n l q k) env h = (refl, mean_typed q env h, fields_typed k env h)
 
-      rows_typed : {ns ms : Scope} {rs : QueryRanges} → BindScope S ns rs ms → (env : Env) → Fills d env ns → Each (λ row. Fills d row ms) (rows S d rs env)
+      pub rows_typed : {ns ms : Scope} {rs : QueryRanges} → BindScope S ns rs ms → (env : Env) → Fills d env ns → Each (λ row. Fills d row ms) (rows S d rs env)
       rows_typed r_end env h = (h, tt)
       rows_typed (r_range {ms = ms} {x = x} {r = r} {rs = rs} {t = t} q k) env h =
           each_flat_map (λ row. Fills d row ms) (λ v. HasType d v t) (λ v. rows S d rs ((x, v) ∷ env)) (members (mean S d r env)) (members_typed d t (mean S d r env) (mean_typed q env h)) (λ v g. rows_typed k ((x, v) ∷ env) (refl, g, h))

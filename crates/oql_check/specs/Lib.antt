@@ -4,3 +4,4 @@ pub mod TypedQueries
 pub mod QueryMeaning
 pub mod Environments
 pub mod CheckAnswers
+pub mod Checking

@@ -10,3 +10,4 @@ mod QueryExamples
 mod TypeExamples
 mod FaultExamples
 mod MeaningExamples
+mod LimitExamples

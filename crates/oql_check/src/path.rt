@@ -84,12 +84,12 @@ fn walked<'a>(schema: &'a Schema, t: &'a Ty, labels: &Labels) -> Result<&'a Ty, 
 pub(crate) fn path_type(
     alloc: Global,
     schema: &Schema,
-    t: BoxedTy,
+    t: &Ty,
     labels: &Labels,
 ) -> Result<BoxedTy, CheckFault>
-    ensures { IsType result (path_type schema.now t labels.now) }
+    ensures { IsType result (path_type schema.now (type_tree t.now) labels.now) }
 {
-    let last = walked(schema, t.get(), labels)?;
+    let last = walked(schema, t, labels)?;
     let copy = last.copy()?;
     let boxed = BoxedTy::new(alloc, copy)?;
     Ok(boxed)

@@ -4,9 +4,9 @@ ghost use Rattle.std.specs.Prelude.{◌≡◌, [], ◌∷◌, ◌++◌, map, IfO
 ghost use Rattle.kola_values.specs.Databases.{look_up, extent_class};
 ghost use Rattle.kola_values.specs.Types.{TBool, TClass, TSet, of_type_fields};
 ghost use Rattle.kola_schema.specs.Schemas.{names_of};
-ghost use Rattle.oql_syntax.specs.QueryTrees.{QSelect, QRange, NoRanges, of_links, of_set_links, of_fields, of_ranges};
+ghost use Rattle.oql_syntax.specs.QueryTrees.{QExists, QSelect, QRange, NoRanges, of_links, of_set_links, of_fields, of_ranges};
 ghost use Rattle.oql_syntax.specs.QueryViews.{query_tree, link_entry, set_link_entry, where_of};
-ghost use Rattle.oql_check.specs.QueryTypes.{and_then, provided, set_at, bool_at, sized, compare_type, has_range, name_type, query_type, links_type, set_links_type, fields_type, ranges_scope, where_type, label_at};
+ghost use Rattle.oql_check.specs.QueryTypes.{and_then, provided, set_at, bool_at, sized, compare_type, has_range, name_type, path_type, query_type, links_type, set_links_type, fields_type, ranges_scope, where_type, label_at};
 ghost use Rattle.oql_check.specs.Checking.{Finds, IsType, Binds, EndsIn, join_type};
 
 use crate::fault::{CheckFault, CheckWhy};
@@ -19,7 +19,7 @@ use crate::scope::Scope;
 use kola_core::{Memory, Name};
 use kola_schema::{Schema, has_label};
 use kola_values::{BoxedTy, Fields, Ty};
-use oql_syntax::{BoxedExpr, Expr, Form, Ranges, Sign, StructList};
+use oql_syntax::{BoxedExpr, Expr, Form, Labels, Ranges, Sign, StructList};
 use std::alloc::Global;
 
 /// The most fields of a struct.
@@ -103,10 +103,7 @@ pub(crate) fn query_type(
         Form::Name(x) => name_type(alloc, schema, scope, at, x),
         Form::Literal(literal) => literal_type(alloc, at, literal),
         Form::SetOf(literals) => set_type(alloc, at, literals),
-        Form::Path(first, labels) => {
-            let t = query_type(alloc, schema, scope, first.get())?;
-            path_type(alloc, schema, t, labels)
-        }
+        Form::Path(first, labels) => walk_type(alloc, schema, scope, first, labels),
         Form::Struct(fields) => {
             let types = fields_type(alloc, schema, scope, fields)?;
             struct_of(alloc, at, types)
@@ -149,6 +146,28 @@ pub(crate) fn query_type(
     }
 }
 
+/// The type of a path. That of a variable at its front is lent and not copied.
+#[cycle(typing)]
+fn walk_type(
+    alloc: Global,
+    schema: &Schema,
+    scope: &mut Scope,
+    first: &BoxedExpr,
+    labels: &Labels,
+) -> Result<BoxedTy, CheckFault>
+    ensures value { IsType result
+        (and_then (query_type schema.now scope.old first.now) (λ t. path_type schema.now t labels.now)) }
+    ensures kept { OnOk result (scope.new ≡ scope.old) }
+{
+    if let Form::Name(x) = &first.get().form {
+        if let Some(lent) = scope.find(x) {
+            return path_type(alloc, schema, lent.get(), labels);
+        }
+    }
+    let t = query_type(alloc, schema, scope, first.get())?;
+    path_type(alloc, schema, t.get(), labels)
+}
+
 /// The operands of a chain, each joined to what stands before it.
 #[cycle(typing)]
 fn links_type(
@@ -159,7 +178,8 @@ fn links_type(
     first: BoxedTy,
     links: &[(usize, Expr)],
 ) -> Result<BoxedTy, CheckFault>
-    ensures value { IsType result (links_type schema.now scope.old (join_type join) first (of_links (map link_entry links.now))) }
+    ensures value { IsType result
+        (links_type schema.now scope.old (join_type join) first (of_links (map link_entry links.now))) }
     ensures kept { OnOk result (scope.new ≡ scope.old) }
 {
     let mut t = first;
@@ -179,7 +199,8 @@ fn set_links_type(
     first: BoxedTy,
     links: &[(usize, bool, Expr)],
 ) -> Result<BoxedTy, CheckFault>
-    ensures value { IsType result (set_links_type schema.now scope.old first (of_set_links (map set_link_entry links.now))) }
+    ensures value { IsType result
+        (set_links_type schema.now scope.old first (of_set_links (map set_link_entry links.now))) }
     ensures kept { OnOk result (scope.new ≡ scope.old) }
 {
     let mut t = first;
@@ -210,6 +231,7 @@ fn fields_type(
     Ok(types)
 }
 
+/// The type of a quantifier of either kind.
 #[cycle(typing)]
 fn quantifier_type(
     alloc: Global,
@@ -220,7 +242,7 @@ fn quantifier_type(
     range: &BoxedExpr,
     body: &BoxedExpr,
 ) -> Result<BoxedTy, CheckFault>
-    ensures value { IsType result (and_then (query_type schema.now scope.old range.now) (λ t. and_then (set_at at t) (λ m. and_then (query_type schema.now ((x.now, m) ∷ scope.old) body.now) (bool_at at)))) }
+    ensures value { IsType result (query_type schema.now scope.old (QExists at x.now range.now body.now)) }
     ensures kept { OnOk result (scope.new ≡ scope.old) }
 {
     let len = scope.len();
@@ -240,7 +262,8 @@ fn select_type(
     ranges: &Ranges,
     condition: &Option<(usize, BoxedExpr)>,
 ) -> Result<BoxedTy, CheckFault>
-    ensures value { IsType result (query_type schema.now scope.old (QSelect at head.now (of_ranges ranges.now) (where_of condition.now))) }
+    ensures value { IsType result
+        (query_type schema.now scope.old (QSelect at head.now (of_ranges ranges.now) (where_of condition.now))) }
     ensures kept { OnOk result (scope.new ≡ scope.old) }
 {
     if ranges.as_slice().is_empty() {
@@ -284,7 +307,8 @@ fn bind_range(
     at: usize,
     range: &Expr,
 ) -> Result<(), CheckFault>
-    ensures value { Binds result scope.new (ranges_scope schema.now scope.old (QRange x.now at (query_tree range.now) NoRanges)) }
+    ensures value { Binds result scope.new
+        (ranges_scope schema.now scope.old (QRange x.now at (query_tree range.now) NoRanges)) }
     ensures older { OnOk result (EndsIn scope.new scope.old) }
 {
     let t = query_type(alloc, schema, scope, range)?;

@@ -10,6 +10,9 @@ use Rattle.oql_check.proofs.typing.+typing.Given as goal
 abbrev pub decreases-query_type : goal.decreases-query_type
 decreases-query_type l = 4 * weight (query_tree l.e.now)
 
+abbrev pub decreases-walk_type : goal.decreases-walk_type
+decreases-walk_type l = 4 * weight l.first.now + 1
+
 abbrev pub decreases-links_type : goal.decreases-links_type
 decreases-links_type l = 4 * links_weight (of_links (map link_entry l.links.now))
 

@@ -1,0 +1,13 @@
+pub mod Checks
+pub mod TypedBy
+pub mod TypesFor
+pub mod Means
+pub mod SmallTypes
+pub mod OneFault
+mod Sizes
+mod CheckLoops
+mod QueryExamples
+mod TypeExamples
+mod FaultExamples
+mod MeaningExamples
+mod LimitExamples

@@ -15,6 +15,8 @@ mod names;
 #[cfg(test)]
 mod places;
 #[cfg(test)]
+mod queries;
+#[cfg(test)]
 mod rules;
 #[cfg(test)]
 mod samples;

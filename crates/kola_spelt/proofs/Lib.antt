@@ -1,0 +1,2 @@
+pub mod StringsBack
+pub mod TokensSpelt

@@ -1,0 +1,11 @@
+mod UnplacedExamples
+mod Sounding
+mod Places
+mod Printable
+mod PrintableLaws
+mod TextsPrintable
+mod SpeltBy
+mod Bare
+mod SpeltParts
+mod QuerySpelt
+pub mod PrintedAgain

@@ -1,0 +1,4 @@
+mod KeyLaws
+pub mod Sound
+pub mod Exact
+mod Examples

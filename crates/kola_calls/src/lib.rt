@@ -7,6 +7,8 @@ mod canonical;
 #[cfg(test)]
 mod databases;
 #[cfg(test)]
+mod instances;
+#[cfg(test)]
 mod jobs;
 #[cfg(test)]
 mod layouts;

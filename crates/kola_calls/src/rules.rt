@@ -4,7 +4,7 @@ use crate::samples::{Broken, boxed, is_printed, term_with, variables};
 use kola_canon::type_text;
 use kola_core::{Memory, Name, Names};
 use kola_laws::laws;
-use kola_rule::{Rule, RuleTable};
+use kola_rule::{Rule, RuleTable, names_are_distinct};
 use kola_term::{MetaCtx, Term};
 use kola_values::Ty;
 use std::alloc::Global;
@@ -141,6 +141,34 @@ fn a_table_finds_rules_by_their_names(rt: HostRuntime) -> Result<(), Fail> {
     }
     for (n, name) in [(0, "near"), (1, "same"), (2, "push"), (3, "")] {
         assert_eq!(rt; name_at(&table, n), name);
+    }
+    Ok(())
+}
+
+fn push_rule(rules: &mut Vec<Rule>, rule: Box<Rule>) -> Result<(), Memory> {
+    rules.push(Box::into_inner(rule))?;
+    Ok(())
+}
+
+/// Whether rules of these names have distinct names.
+fn are_distinct(alloc: Global, names: &[&str]) -> Result<bool, Broken> {
+    let mut rules = Vec::new(alloc);
+    for name in names {
+        push_rule(&mut rules, rule(alloc, name, "(f o id)", "f")?)?;
+    }
+    Ok(names_are_distinct(alloc, rules.as_slice())?)
+}
+
+#[test]
+fn rules_have_distinct_names_or_not(rt: HostRuntime) -> Result<(), Fail> {
+    let shown: [(&[&str], bool); 4] = [
+        (&[], true),
+        (&["near", "same", "nea"], true),
+        (&["near", "same", "near"], false),
+        (&["same", "near", "near"], false),
+    ];
+    for (names, wanted) in shown {
+        assert_eq!(rt; are_distinct(rt.alloc(), names)?, wanted);
     }
     Ok(())
 }

@@ -4,6 +4,7 @@ ghost use Rattle.std.specs.Prelude.{◌≡◌, [], map, IfOk};
 ghost use Rattle.std.specs.Option.{option_map};
 ghost use Rattle.kola_values.specs.Databases.{look_up};
 ghost use Rattle.kola_values.specs.Views.{type_entry};
+ghost use Rattle.kola_schema.specs.SchemaViews.{type_at};
 ghost use Rattle.kola_term.specs.TermView.{const_tree, fun_tree, pred_tree, term_tree};
 ghost use Rattle.kola_term.specs.Parts.{sub_tree};
 ghost use Rattle.kola_match.specs.Substitutions.{inst, inst_const, inst_fun, inst_pred};
@@ -84,8 +85,20 @@ impl Subst {
         None
     }
 
-    /// The term of a function variable.
-    fn fun_of(&self, var: &Name) -> Option<&Fun>
+    /// The type of a type variable.
+    pub(crate) fn type_of(&self, var: &Name) -> Option<&Ty>
+        ensures { option_map type_at result ≡ look_up var.now (found_binds self.now).types }
+    {
+        for (known, t) in self.types.as_slice() {
+            if var.is(known) {
+                return Some(t);
+            }
+        }
+        None
+    }
+
+    /// The term of a function variable; `None` where the substitution has none.
+    pub fn fun_of(&self, var: &Name) -> Option<&Fun>
         ensures { option_map fun_at result ≡ look_up var.now (found_binds self.now).funs }
     {
         for (known, term) in self.terms.as_slice() {

@@ -14,6 +14,7 @@ pub mod NodeLaws
 pub mod PairLaws
 pub mod BindLaws
 pub mod FieldLaws
+pub mod FieldsUnder
 pub mod InstanceLaws
 pub mod LeadingLaws
 pub mod DemandLaws

@@ -13,6 +13,7 @@ mod matching;
 mod nodes;
 mod pairs;
 mod subst;
+mod types;
 mod well_typed;
 
 pub use facts::{
@@ -20,5 +21,8 @@ pub use facts::{
     variables_decide_instances,
 };
 pub use instance::{Tally, binds_all_variables, match_at, match_both};
+pub use nodes::same_node;
+pub use pairs::same_part;
 pub use subst::{Subst, instantiate};
-pub use well_typed::rule_ok;
+pub use types::instantiate_type;
+pub use well_typed::{rule_ok, sides_fit};

@@ -76,8 +76,9 @@ fn alike_preds(p: &Pred, q: &Pred) -> bool
     }
 }
 
-/// Whether two nodes are the same, whatever their children.
-pub(crate) fn same_node(a: SubTerm, b: SubTerm) -> bool
+/// Whether two nodes are the same, whatever their children: of one constructor, and with one name, truth value or
+/// constant where it has one. It takes no memory.
+pub fn same_node(a: SubTerm, b: SubTerm) -> bool
     ensures { result ≡ same_node (sub_tree a.entry) (sub_tree b.entry) }
 {
     match (a, b) {

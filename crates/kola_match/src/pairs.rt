@@ -43,8 +43,8 @@ pub(crate) fn alike<'p, 't>(a: SubTerm<'p>, b: SubTerm<'t>) -> Option<Pairs<'p, 
     }
 }
 
-/// Whether two terms are the same.
-pub(crate) fn same_part(a: SubTerm, b: SubTerm) -> bool
+/// Whether two terms are the same. It takes no memory.
+pub fn same_part(a: SubTerm, b: SubTerm) -> bool
     ensures { (result ≡ true) ↔ (sub_tree a.entry ≡ sub_tree b.entry) }
 {
     match alike(a, b) {

@@ -70,8 +70,20 @@ impl Subst {
         None
     }
 
-    /// The term of a function variable.
-    fn fun_of(&self, var: &Name) -> Option<&Fun>
+    /// The type of a type variable.
+    pub(crate) fn type_of(&self, var: &Name) -> Option<&Ty>
+        ensures { option_map type_at result ≡ look_up var.now (found_binds self.now).types }
+    {
+        for (known, t) in self.types.as_slice() {
+            if var.is(known) {
+                return Some(t);
+            }
+        }
+        None
+    }
+
+    /// The term of a function variable; `None` where the substitution has none.
+    pub fn fun_of(&self, var: &Name) -> Option<&Fun>
         ensures { option_map fun_at result ≡ look_up var.now (found_binds self.now).funs }
     {
         for known in self.bound.as_slice() {

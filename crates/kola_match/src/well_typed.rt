@@ -222,9 +222,9 @@ fn is_fine(
     }
 }
 
-/// Whether both sides are within the limits and typed at the input type: two functions with one output type, or two
-/// predicates.
-fn sides_fit(
+/// Whether two terms are within the limits on nodes, depth and types and typed at an input type: two functions with one
+/// output type, or two predicates. It takes time by the nodes of both.
+pub fn sides_fit(
     alloc: Global,
     schema: &Schema,
     vars: &MetaCtx,

@@ -1,0 +1,9 @@
+mod SameOutside
+mod SameShown
+mod ByLaw
+mod Checked
+mod Faults
+mod Tables
+mod StepLaws
+mod Kept
+mod Examples

@@ -1,0 +1,37 @@
+-- What accepted rules keep, and what the answers to a draft say.
+use Rattle.std.specs.Prelude.{◌≡◌, ℕ, List, ◌++◌, Result, Ok, Err}
+use Rattle.kola_values.specs.Databases.{Classes}
+use Rattle.kola_values.specs.Sets.{Each}
+use Rattle.kola_rule.specs.Rules.{RuleTree, DraftTree}
+use Rattle.kola_rule.specs.declared.rule.Rule.{Rule}
+use Rattle.kola_rule.specs.declared.rule.Draft.{Draft}
+use Rattle.kola_match.specs.Holding.{Holds}
+use Rattle.kola_match.specs.RuleOk.{RuleOk}
+use Rattle.kola_laws.specs.Laws.{laws}
+use Rattle.kola_proof.specs.Drafts.{Valid, FirstBad}
+use Rattle.kola_proof.specs.declared.fault.StepWhy.{StepWhy}
+use Rattle.kola_proof.specs.declared.fault.AdmitFault.{AdmitFault}
+use Rattle.kola_proof.specs.declared.fault.AdmitFault.TheVariants.{Refused, Memory}
+
+-- a schema, and rules under it
+pub record Accepted : Type 0 where
+  pub schema : Classes
+  pub rules : List Rule
+
+-- the laws come first, and every rule is well typed and holds
+pub record IsAccepted (S : Classes) (rs : List RuleTree) : Type 0 where
+  pub added : List RuleTree
+  pub laws_first : rs ≡ laws ++ added
+  pub well_typed : Each (RuleOk S) rs
+  pub hold : Each (Holds S) rs
+
+-- accepted, the draft is valid and has no fault; refused, it has the fault first, and is not valid; want of memory says nothing
+abbrev pub IsVerdict : {A : Type 0} → Classes → List RuleTree → DraftTree → Result A AdmitFault → Type 0
+IsVerdict S rs d (Ok u) = Valid S rs d × ((n : ℕ) (w : StepWhy) → FirstBad S rs d n w → ⊥)
+IsVerdict S rs d (Err (Refused n w e)) = FirstBad S rs d n w × (Valid S rs d → ⊥)
+IsVerdict S rs d (Err (Memory e)) = Unit {0}
+
+-- the draft that a fault hands back
+abbrev pub handed_back : AdmitFault → Draft
+handed_back (Refused n w e) = e
+handed_back (Memory e) = e

@@ -1,0 +1,5 @@
+pub mod Steps
+pub mod Drafts
+pub mod Accepting
+pub mod Outside
+pub mod Checks

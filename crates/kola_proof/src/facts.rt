@@ -1,0 +1,29 @@
+//! What holds of drafts. Each is a function that does nothing.
+
+ghost use Rattle.std.specs.Prelude.{◌≡◌, ℕ, true, List};
+ghost use Rattle.kola_values.specs.Databases.{Classes};
+ghost use Rattle.kola_values.specs.Sets.{Each};
+ghost use Rattle.kola_schema.specs.Schemas.{is_schema};
+ghost use Rattle.kola_rule.specs.Rules.{RuleTree, DraftTree};
+ghost use Rattle.kola_match.specs.Holding.{Holds};
+ghost use Rattle.kola_proof.specs.Drafts.{Valid, FirstBad};
+ghost use Rattle.kola_proof.specs.declared.fault.StepWhy.{StepWhy};
+
+/// Under a well-formed schema, the rule of a valid draft holds where all rules hold by which it may be proved: in every
+/// database that meets the schema, whatever places its steps change, in whatever direction, where the conditions of
+/// those rules are shown or supposed.
+pub fn proved_rules_hold()
+    ensures { (S : Classes) → is_schema S ≡ true → (rules : List RuleTree) (d : DraftTree) → Each (Holds S) rules →
+        Valid S rules d → Holds S d.rule }
+{}
+
+/// A draft is valid or has a first fault: it is not so that it is neither, it is not both, and it has no two first
+/// faults.
+pub fn a_draft_is_valid_or_has_one_first_fault()
+    ensures some { (S : Classes) (rules : List RuleTree) (d : DraftTree) → (Valid S rules d → ⊥) →
+        ((n : ℕ) (w : StepWhy) → FirstBad S rules d n w → ⊥) → ⊥ }
+    ensures not_both { (S : Classes) (rules : List RuleTree) (d : DraftTree) (n : ℕ) (w : StepWhy) →
+        Valid S rules d → FirstBad S rules d n w → ⊥ }
+    ensures one { (S : Classes) (rules : List RuleTree) (d : DraftTree) (n m : ℕ) (w v : StepWhy) →
+        FirstBad S rules d n w → FirstBad S rules d m v → (n ≡ m) × (w ≡ v) }
+{}

@@ -1,0 +1,4 @@
+pub mod ItemLists
+pub mod LedTexts
+pub mod RuleLaws
+mod RuleExamples

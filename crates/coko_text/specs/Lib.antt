@@ -1,0 +1,5 @@
+pub mod Limits
+pub mod LedReaders
+pub mod RuleGrammar
+pub mod RuleReaders
+pub mod RuleViews

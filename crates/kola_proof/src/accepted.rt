@@ -97,10 +97,7 @@ impl Accepted {
     {
         self.schema.well_formed();
         match check(self.alloc, &self.schema, &self.rules, &draft) {
-            Ok(()) => match add(&mut self.rules, draft) {
-                Ok(()) => Ok(()),
-                Err(draft) => Err(AdmitFault::Memory { draft }),
-            },
+            Ok(()) => add(&mut self.rules, draft),
             Err(CheckFault::At(step, why)) => Err(AdmitFault::Refused { step, why, draft }),
             Err(CheckFault::Memory) => Err(AdmitFault::Memory { draft }),
         }

@@ -45,6 +45,18 @@ pub enum AdmitFault {
     },
 }
 
+impl From<(Memory, Draft)> for AdmitFault {
+    ghost use Rattle.std.specs.Prelude.{◌≡◌};
+    ghost use Rattle.kola_proof.specs.declared.fault.AdmitFault.TheVariants as fault;
+
+    ghost from_gives = { λ refused e. e ≡ fault.Memory refused.1 };
+
+    fn from(refused: (Memory, Draft)) -> AdmitFault {
+        let (_, draft) = refused;
+        AdmitFault::Memory { draft }
+    }
+}
+
 /// What is wrong with a step.
 #[derive(Clone, Copy)]
 pub(crate) enum StepFault {

@@ -1,5 +1,10 @@
 //! The loads.
 
+ghost use Rattle.std.specs.Prelude.{IfOk};
+ghost use Rattle.kola_term.specs.TermView.{fun_tree};
+ghost use Rattle.kola_bench.specs.Swaps.{IsSwap};
+
+use crate::matching::match_all;
 use crate::rule_text::push_rule;
 use kola_core::{Memory, Name, Text};
 use kola_database::{Db, ObjectDef, ObjectsRefused};
@@ -21,6 +26,7 @@ pub(crate) fn run_load(alloc: Global, name: &str, n: u32) -> Result<Option<usize
         "database" => database(alloc, n)?,
         "typing" => typing(alloc, n)?,
         "text" => text_of_term(alloc, n)?,
+        "matching" => matching(alloc, n)?,
         _ => return Ok(None),
     };
     Ok(Some(count))
@@ -157,7 +163,9 @@ fn database(alloc: Global, n: u32) -> Result<usize, Memory> {
 }
 
 /// A function of at most so many nodes: compositions of compositions, down to `<snd, fst>`.
-fn composed(alloc: Global, nodes: u32) -> Result<Box<Fun>, Memory> {
+fn composed(alloc: Global, nodes: u32) -> Result<Box<Fun>, Memory>
+    ensures { IfOk result (λ f. IsSwap (fun_tree f.value)) }
+{
     if nodes < 7 {
         return Ok(Box::new(alloc, make::pair(alloc, Fun::Snd, Fun::Fst)?)?);
     }
@@ -214,6 +222,18 @@ fn text_of_term(alloc: Global, n: u32) -> Result<usize, Memory> {
         text = printed_again(alloc, &text)?;
     }
     Ok(text.len())
+}
+
+/// How often a law is matched at a place of a function of at most n nodes: the number of nodes times that of laws.
+fn matching(alloc: Global, n: u32) -> Result<usize, Memory> {
+    let Some(schema) = parts(alloc)? else {
+        return Ok(0);
+    };
+    let f = composed(alloc, n)?;
+    let input = BoxedTy::new(alloc, Ty::pair_of(alloc, Ty::Int, Ty::Int)?)?;
+    let laws = laws(alloc)?;
+    let matches = match_all(alloc, &schema, &laws, &f, input.get())?;
+    Ok(matches as usize)
 }
 
 fn push_rules(out: &mut Vec<u8>, rules: &RuleTable) -> Result<(), Memory> {

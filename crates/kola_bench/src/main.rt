@@ -3,6 +3,7 @@
 #![tactic(auto)]
 
 mod loads;
+mod matching;
 mod rule_text;
 
 use loads::{laws_text, run_load};

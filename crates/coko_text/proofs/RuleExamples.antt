@@ -138,6 +138,6 @@ unfolding sign_named signs term_word_named term_words text_from head
 no_sides = refl
 
 -- a name that no variable has is no side
-an_extent_is_no_side : whole (file_at 0) (text (head ++ word (codes "g") ∷ LSign (codes "=") ∷ [])) ≡ Err (fault Unexpected (text_from 16 (word (codes "g") ∷ LSign (codes "=") ∷ [])))
+an_extent_is_no_side : whole (file_at 0) (text (head ++ word (codes "g") ∷ LSign (codes "=") ∷ [])) ≡ Err (fault Unexpected (text_from 17 (word (codes "g") ∷ LSign (codes "=") ∷ [])))
 unfolding sign_named signs term_word_named term_words text_from head
 an_extent_is_no_side = refl

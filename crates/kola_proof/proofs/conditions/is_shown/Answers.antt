@@ -4,7 +4,8 @@ use Rattle.kola_term.specs.Terms.{FId}
 use Rattle.kola_term.specs.ContextView.{context_of}
 use Rattle.kola_match.specs.Binds.{or_else, substitution_of}
 use Rattle.kola_match.specs.Substitutions.{sub_type}
-use Rattle.kola_match.specs.SubstViews.{found_binds, fun_at}
+use Rattle.kola_match.specs.NodeViews.{fun_at}
+use Rattle.kola_match.specs.SubstViews.{found_binds}
 use Rattle.kola_injective.specs.Derived.{Derived, of_id}
 use Rattle.kola_proof.proofs.conditions.is_shown.Goals as goal
 

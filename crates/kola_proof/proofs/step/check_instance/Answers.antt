@@ -32,7 +32,7 @@ returns-in_default-2 c =
     let parts = moved_parts (sub_tree c.as_part.result) (term_tree c.args.before.now) (sub_tree c.as_part-2.result) (term_tree c.args.step.now.term) c.as_slice.result.now c.args.step.now.path (Some (sub_tree c.in-Some.from, sub_tree c.in-Some.to)) c.as_part.ensures c.as_part-2.ensures c.as_slice.ensures
     (subst (λ o. AreParts (sub_tree c.as_part.result) (sub_tree c.as_part-2.result) c.as_slice.result.now (option_map both_trees o)) c.in-Some.is c.parts_at.ensures) in
     none_by S x (type_tree c.args.rule.now.input) (type_tree c.args.input.now) law c.args.step.now.rev c.args.step.now.path (term_tree c.args.before.now) (term_tree c.args.step.now.term) (sub_tree c.in-Some.from) (sub_tree c.in-Some.to) c.requires.input parts
-    (subst (λ o. Decided S x law.vars law.input (type_tree c.args.input.now) ((pattern_side law c.args.step.now.rev, sub_tree c.in-Some.from) ∷ (other_side law c.args.step.now.rev, sub_tree c.in-Some.to) ∷ []) (option_map found_binds o)) c.in_default-2.is c.in_ok-s.ensures)
+    (subst (λ o. Decided S x law.vars law.input (type_tree c.args.input.now) ((pattern_side law c.args.step.now.rev, sub_tree c.in-Some.from) ∷ (other_side law c.args.step.now.rev, sub_tree c.in-Some.to) ∷ []) (option_map found_binds o)) c.in_default-2.is c.in_ok-s.ensures.found)
 
 pub returns-then-not-branch : goal.returns-then-not-branch
 returns-then-not-branch c =
@@ -42,7 +42,7 @@ returns-then-not-branch c =
     let found = found_binds c.in-Some-2.s in
     let parts = moved_parts (sub_tree c.as_part.result) (term_tree c.args.before.now) (sub_tree c.as_part-2.result) (term_tree c.args.step.now.term) c.as_slice.result.now c.args.step.now.path (Some (sub_tree c.in-Some.from, sub_tree c.in-Some.to)) c.as_part.ensures c.as_part-2.ensures c.as_slice.ensures
     (subst (λ o. AreParts (sub_tree c.as_part.result) (sub_tree c.as_part-2.result) c.as_slice.result.now (option_map both_trees o)) c.in-Some.is c.parts_at.ensures) in
-    let d = subst (λ o. Decided S x law.vars law.input (type_tree c.args.input.now) ((pattern_side law c.args.step.now.rev, sub_tree c.in-Some.from) ∷ (other_side law c.args.step.now.rev, sub_tree c.in-Some.to) ∷ []) (option_map found_binds o)) c.in-Some-2.is c.in_ok-s.ensures in (
+    let d = subst (λ o. Decided S x law.vars law.input (type_tree c.args.input.now) ((pattern_side law c.args.step.now.rev, sub_tree c.in-Some.from) ∷ (other_side law c.args.step.now.rev, sub_tree c.in-Some.to) ∷ []) (option_map found_binds o)) c.in-Some-2.is c.in_ok-s.ensures.found in (
       substitution_of found,
       found_by S x (type_tree c.args.rule.now.input) (type_tree c.args.input.now) law c.args.step.now.rev c.args.step.now.path (term_tree c.args.before.now) (term_tree c.args.step.now.term) (sub_tree c.in-Some.from) (sub_tree c.in-Some.to) c.requires.input parts found d,
       not_shown_by S x (type_tree c.args.rule.now.input) (type_tree c.args.input.now) law c.args.step.now.rev c.args.step.now.path (term_tree c.args.before.now) (term_tree c.args.step.now.term) (sub_tree c.in-Some.from) (sub_tree c.in-Some.to) c.requires.input parts found d

@@ -1,6 +1,6 @@
 -- Turns of the loops of the check: what the typing says of the entries from a place on.
-use Rattle.std.proofs.Common.{◌≡◌, ℕ, ◌+◌, ◌-◌, ◌<◌, ◌≤◌, Bool, true, false, List, [], ◌∷◌, ◌++◌, length, get_or, map, take, drop, reverse, not, nat_lt, ◌==◌, true≢false, Some, Result, Ok, Err, refl, sym, ap, subst, ◌∙◌, arith, cond}
-use Rattle.std.proofs.lemmas.List.{drop_all, drop_more, map-append, append_assoc, append-nil, length-map, length-reverse, length-drop, length-append, get_or-reverse, reverse-append, take-append-drop}
+use Rattle.std.proofs.Common.{◌≡◌, ℕ, ◌+◌, ◌-◌, ◌<◌, ◌≤◌, Bool, true, false, List, [], ◌∷◌, ◌++◌, length, get_or, map, drop, not, nat_lt, ◌==◌, true≢false, Some, Result, Ok, Err, refl, sym, ap, subst, ◌∙◌, arith, cond}
+use Rattle.std.proofs.lemmas.List.{drop_all, map-append, append_assoc, append-nil, length-map, length-append}
 use Rattle.std.proofs.lemmas.Bool.Decides.{nat_tests}
 use Rattle.std.specs.List.{list_any}
 use Rattle.std.specs.Result.{IsErrAnd}
@@ -199,22 +199,9 @@ names_many us = length-map us (λ (e : List ℕ × TypeTree). e.0)
 
 -- ---- scopes
 
-pub from_newest : (xs : Scope) (i : ℕ) (x : List ℕ × TypeTree) → i < length xs → x ≡ get_or xs (length xs - 1 - i) x → drop i (reverse xs) ≡ x ∷ drop (i + 1) (reverse xs)
-from_newest xs i x p h =
-    let m = length-reverse xs in
-    drop_more (reverse xs) i x (omega arith) ∙ ap (λ y. y ∷ drop (i + 1) (reverse xs)) (get_or-reverse xs i x p ∙ sym h)
-
 drop_past : (vs ws : Scope) → drop (length vs) (vs ++ ws) ≡ ws
 drop_past [] ws = refl
 drop_past (v ∷ vs) ws = drop_past vs ws
-
-pub newest_gone : (xs : Scope) (n : ℕ) → reverse (take n xs) ≡ drop (length xs - n) (reverse xs)
-newest_gone xs n =
-    let r = reverse (drop n xs) in
-    let m : length r ≡ length xs - n = length-reverse (drop n xs) ∙ length-drop n xs in
-    sym (drop_past r (reverse (take n xs)))
-    ∙ (λ j. drop (m j) (sym (reverse-append (take n xs) (drop n xs)) j))
-    ∙ ap (λ l. drop (length xs - n) (reverse l)) (take-append-drop n xs)
 
 -- back to a scope from one with newer variables
 pub back : (ms ns : Scope) → EndsIn ms ns → drop (length ms - length ns) ms ≡ ns
@@ -222,9 +209,6 @@ back ms ns h =
     let m : length (h.0 ++ ns) ≡ length h.0 + length ns = length-append h.0 ns in
     let k : length (h.0 ++ ns) - length ns ≡ length h.0 = omega arith in
     ap (λ l. drop (length l - length ns) l) h.1 ∙ ap (λ n. drop n (h.0 ++ ns)) k ∙ drop_past h.0 ns
-
-pub gone : (xs us : Scope) (n : ℕ) → reverse xs ≡ us → reverse (take n xs) ≡ drop (length us - n) us
-gone xs us n e = newest_gone xs n ∙ ap (λ k. drop (k - n) (reverse xs)) (sym (length-reverse xs)) ∙ ap (λ l. drop (length l - n) l) e
 
 pub ends_further : (ls ms ns : Scope) → EndsIn ls ms → EndsIn ms ns → EndsIn ls ns
 ends_further ls ms ns h k = (h.0 ++ k.0, h.1 ∙ ap (λ l. h.0 ++ l) k.1 ∙ sym (append_assoc h.0 k.0 ns))

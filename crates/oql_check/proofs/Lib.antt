@@ -5,6 +5,7 @@ pub mod Means
 pub mod SmallTypes
 pub mod OneFault
 mod Sizes
+mod ScopeTables
 mod CheckLoops
 mod QueryExamples
 mod TypeExamples

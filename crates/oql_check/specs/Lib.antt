@@ -5,3 +5,4 @@ pub mod QueryMeaning
 pub mod Environments
 pub mod CheckAnswers
 pub mod Checking
+pub mod ScopeTables

@@ -57,8 +57,8 @@ impl Typed {
 ///
 /// The parts of an expression are typed before its own tests, from the left. In a select the ranges come first, each with its test, then
 /// the condition with its test, then the head; in a quantifier the range with its test and then the body; in a struct each label before
-/// its expression. A name is looked for among the variables from the newest on, which takes time by the number of variables in scope, and
-/// among the extents only where no variable has it. A variable's type is copied where the variable stands, but where a path
+/// its expression. A name is looked for among the variables, of which the newest of the name is found in constant expected time, and among
+/// the extents only where no variable has it. A variable's type is copied where the variable stands, but where a path
 /// begins with it. No type of more than 4,096 nodes is built.
 pub fn check_query(
     alloc: Global,

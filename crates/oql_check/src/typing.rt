@@ -313,7 +313,6 @@ fn bind_range(
 {
     let t = query_type(alloc, schema, scope, range)?;
     let member = set_at(at, t)?;
-    let x = x.copy()?;
     scope.bind(x, member)?;
     Ok(())
 }

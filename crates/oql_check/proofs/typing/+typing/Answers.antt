@@ -11,7 +11,7 @@ use Rattle.oql_check.proofs.typing.+typing.Goals as goal
 -- ---- ranges
 
 pub bind_range-returns-clause-older : goal.bind_range-returns-clause-older
-bind_range-returns-clause-older t c = ((c.in_ok-x.x, c.in_ok-member.member) ∷ [], c.in_ok-bind.ensures ∙ ap (λ l. (c.in_ok-x.x, c.in_ok-member.member) ∷ l) c.in_ok-t.ensures.kept)
+bind_range-returns-clause-older t c = ((c.args.x.now, c.in_ok-member.member) ∷ [], c.in_ok-bind.ensures ∙ ap (λ l. (c.args.x.now, c.in_ok-member.member) ∷ l) c.in_ok-t.ensures.kept)
 
 pub bind_ranges-bind_range-requires : goal.bind_ranges-bind_range-requires
 bind_ranges-bind_range-requires t c =

@@ -1,6 +1,9 @@
-use Rattle.std.proofs.Common.{reverse, ap, ◌∙◌}
-use Rattle.oql_check.proofs.CheckLoops.{gone}
+use Rattle.std.proofs.Common.{◌-◌, length, drop, sym, ap, ◌∙◌, arith}
+use Rattle.oql_check.proofs.ScopeTables.{one_less}
 use Rattle.oql_check.proofs.scope.Scope.unbind.Goals as goal
 
-pub returns : goal.returns
-returns c = ap reverse c.truncate.ensures.items ∙ gone c.self.inside.entries.items c.args.self.now c.args.len c.self.view_is
+pub loop-self-preserved : goal.loop-self-preserved
+loop-self-preserved c =
+    c.loop-self.invariant
+    ∙ one_less c.loop-self.self c.args.len (omega (arith, c.loop-self-test.true, c.len.ensures))
+    ∙ ap (λ s. drop (length s - c.args.len) s) (sym c.unbind_newest.ensures)

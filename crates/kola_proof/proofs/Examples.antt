@@ -1,5 +1,5 @@
--- A rule with a valid proof, and each first fault of its like.
-use Rattle.std.specs.Prelude.{◌≡◌, ℕ, true, false, List, [], ◌∷◌, codes, refl}
+-- A rule with a valid proof, and each first fault of its like; two such rules in a file.
+use Rattle.std.specs.Prelude.{◌≡◌, ℕ, true, false, List, [], ◌∷◌, ◌++◌, codes, refl}
 use Rattle.std.proofs.Common.{sym, subst}
 use Rattle.kola_values.specs.Types.{TypeTree, TVar, TPair}
 use Rattle.kola_term.specs.Terms.{CBool, FunTree, FId, FFst, FComp, FTimes, FMeta, PEq, PAt, TermTree, TermF, TermP}
@@ -16,7 +16,7 @@ use Rattle.kola_injective.specs.Derived.{Derived, of_variable}
 use Rattle.kola_injective.specs.Inferring.{infer}
 use Rattle.kola_injective.proofs.Exact.{infer_complete}
 use Rattle.kola_proof.specs.Steps.{StepOk, unknown_law, no_such_path, step_ill_typed, no_instance, condition_not_shown}
-use Rattle.kola_proof.specs.Drafts.{end, more, now, later, last, Valid, FirstBad, name_taken, first_is_not_left, in_the_steps}
+use Rattle.kola_proof.specs.Drafts.{end, more, now, later, last, Valid, FirstBad, name_taken, first_is_not_left, in_the_steps, AreValid, no_draft, valid_draft, FirstBadDraft, bad_draft, later_draft}
 use Rattle.kola_proof.specs.declared.fault.StepWhy.TheVariants as why
 
 abbrev a : TypeTree
@@ -125,3 +125,39 @@ not_supposed : FirstBad [] laws (proof_of (keyless_when []) (by (TermP PEq) (cod
 not_supposed = in_the_steps refl keyless_ok refl (now (condition_not_shown eq_inj o refl tt keyless_ok.sides (record { typed = (refl, tt); at = refl; from = refl; to = refl }) (λ t h k.
     let e : f ≡ t.funs (codes "f") = cc (h.from) in
     not_derived f (sub_type t.types a) refl (subst (λ z. Derived [] (keyless_when []).vars [] z (sub_type t.types a)) (sym e) k.0))))
+
+-- ---- the drafts of a file
+
+abbrev first_draft : DraftTree
+first_draft = proof_of twice (by twice.right (codes "id_right") (1 ∷ []) ∷ [])
+
+-- the same rule under another name, by the first
+abbrev second_draft : DraftTree
+second_draft = proof_of (twice_named (codes "again")) (by twice.right (codes "twice") [] ∷ [])
+
+second_valid : Valid [] (laws ++ twice ∷ []) second_draft
+second_valid = record {
+  free = refl;
+  well_typed = twice_ok (codes "again");
+  first = refl;
+  steps = more (record {
+    law = twice;
+    named = refl;
+    part = tt;
+    fits = (twice_ok (codes "again")).sides;
+    s = s;
+    by = record { typed = (refl, tt); at = refl; from = refl; to = refl };
+    shown = tt;
+  }) (end refl);
+}
+
+both_valid : AreValid [] laws (first_draft ∷ second_draft ∷ [])
+both_valid = valid_draft twice_valid (valid_draft second_valid no_draft)
+
+-- a rule that comes later is none
+too_early : FirstBadDraft [] laws (second_draft ∷ first_draft ∷ []) (codes "again") 1 why.UnknownLaw
+too_early = bad_draft (in_the_steps refl (twice_ok (codes "again")) refl (now (unknown_law refl)))
+
+-- the second is the first that is wrong
+named_twice : FirstBadDraft [] laws (first_draft ∷ first_draft ∷ []) (codes "twice") 0 why.NameTaken
+named_twice = later_draft twice_valid (bad_draft (name_taken twice refl))

@@ -3,6 +3,8 @@ mod SameShown
 mod ByLaw
 mod Checked
 mod Faults
+pub mod FileFaults
+mod FileLaws
 mod Tables
 mod StepLaws
 mod Kept

@@ -7,13 +7,19 @@ use Rattle.kola_rule.specs.Rules.{RuleTree, StepTree, DraftTree}
 use Rattle.kola_match.specs.RuleOk.{RuleOk, SidesFit}
 use Rattle.kola_proof.specs.Steps.{rule_named, IsPlace, StepOk, StepBad, no_such_path, no_instance, condition_not_shown}
 use Rattle.kola_proof.specs.Drafts.{StepsOk, end, more, StepsBad, now, later, last, in_the_steps}
-use Rattle.kola_proof.specs.Checks.{IsInputAt, IsByLaw, IsStep, AreSteps, numbered, IsCheck, Underway}
+use Rattle.kola_proof.specs.Checks.{IsInputAt, IsByLaw, IsStep, AreSteps, numbered, IsCheck}
 use Rattle.kola_proof.specs.declared.fault.StepWhy.{StepWhy}
 use Rattle.kola_proof.specs.declared.fault.StepWhy.TheVariants as why
 use Rattle.kola_proof.specs.declared.fault.CheckFault.{CheckFault}
 use Rattle.kola_proof.specs.declared.fault.CheckFault.TheVariants as check
 use Rattle.kola_proof.specs.declared.fault.StepFault.{StepFault}
 use Rattle.kola_proof.specs.declared.fault.StepFault.TheVariants as fault
+
+-- what is known before the i-th step, from 0, of all: the term before it fits, and what is said of the steps from there is said of all
+pub record Underway (S : Classes) (rules : List RuleTree) (o : RuleTree) (first : TermTree) (all : List StepTree) (b : TermTree) (n : ℕ) (rest : List StepTree) : Type 0 where
+  pub fits : SidesFit S o.vars o.input o.left b
+  pub ok : StepsOk S rules o b rest → StepsOk S rules o first all
+  pub bad : (m : ℕ) (w : StepWhy) → StepsBad S rules o b n rest m w → StepsBad S rules o first 0 all m w
 
 module _ (S : Classes) (rules : List RuleTree) (o law : RuleTree) (b : TermTree) (k : StepTree) (named : rule_named rules k.law ≡ Some law) (part : IsPlace (sub_at b k.path)) (fits : SidesFit S o.vars o.input o.left k.term) where
   pub step_is : (result : Result Unit StepFault) → IsByLaw S o law b k result → IsStep S rules o b k result

@@ -8,7 +8,6 @@ use Rattle.kola_term.specs.Terms.{TermTree}
 use Rattle.kola_term.specs.Typing.{Context}
 use Rattle.kola_term.specs.Places.{sub_at, place}
 use Rattle.kola_rule.specs.Rules.{RuleTree, StepTree, DraftTree}
-use Rattle.kola_match.specs.RuleOk.{SidesFit}
 use Rattle.kola_match.specs.Substitutions.{Substitution}
 use Rattle.kola_proof.specs.Steps.{IsPlace, ByInstance, AllShown, StepOk, StepBad}
 use Rattle.kola_proof.specs.Drafts.{StepsOk, StepsBad, Valid, FirstBad}
@@ -53,9 +52,3 @@ abbrev pub IsCheck : {A : Type 0} → Classes → List RuleTree → DraftTree �
 IsCheck S rules d (Ok u) = Valid S rules d
 IsCheck S rules d (Err (check.At n w)) = FirstBad S rules d n w
 IsCheck S rules d (Err check.Memory) = Unit {0}
-
--- what is known before the i-th step, from 0, of all: the term before it fits, and what is said of the steps from there is said of all
-pub record Underway (S : Classes) (rules : List RuleTree) (o : RuleTree) (first : TermTree) (all : List StepTree) (b : TermTree) (n : ℕ) (rest : List StepTree) : Type 0 where
-  pub fits : SidesFit S o.vars o.input o.left b
-  pub ok : StepsOk S rules o b rest → StepsOk S rules o first all
-  pub bad : (m : ℕ) (w : StepWhy) → StepsBad S rules o b n rest m w → StepsBad S rules o first 0 all m w

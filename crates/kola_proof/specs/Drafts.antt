@@ -1,5 +1,5 @@
 -- When a rule with its proof is right, and what is wrong with it first: the number of a step, counted from 1, or 0, and the cause.
-use Rattle.std.specs.Prelude.{ℕ, suc, List, [], ◌∷◌, Some, None, ◌≡◌}
+use Rattle.std.specs.Prelude.{ℕ, suc, List, [], ◌∷◌, ◌++◌, Some, None, ◌≡◌}
 use Rattle.kola_values.specs.Databases.{Classes}
 use Rattle.kola_term.specs.Terms.{TermTree}
 use Rattle.kola_rule.specs.Rules.{RuleTree, StepTree, DraftTree}
@@ -31,3 +31,15 @@ pub data FirstBad (S : Classes) (rules : List RuleTree) (d : DraftTree) : ℕ �
   rule_ill_typed : rule_named rules d.rule.name ≡ None → (RuleOk S d.rule → ⊥) → FirstBad S rules d 0 why.RuleIllTyped
   first_is_not_left : rule_named rules d.rule.name ≡ None → RuleOk S d.rule → (d.first ≡ d.rule.left → ⊥) → FirstBad S rules d 0 why.FirstIsNotLeft
   in_the_steps : {n : ℕ} {w : StepWhy} → rule_named rules d.rule.name ≡ None → RuleOk S d.rule → d.first ≡ d.rule.left → StepsBad S rules d.rule d.first 0 d.steps n w → FirstBad S rules d n w
+
+-- ---- the drafts of a file, in their order
+
+-- each is valid by the rules and those of the drafts before it
+pub data AreValid (S : Classes) : List RuleTree → List DraftTree → Type 0 where
+  no_draft : {rules : List RuleTree} → AreValid S rules []
+  valid_draft : {rules : List RuleTree} {d : DraftTree} {ds : List DraftTree} → Valid S rules d → AreValid S (rules ++ d.rule ∷ []) ds → AreValid S rules (d ∷ ds)
+
+-- the first that has a fault by the rules and those of the drafts before it: the name of its rule, with the number of the step and the cause
+pub data FirstBadDraft (S : Classes) : List RuleTree → List DraftTree → List ℕ → ℕ → StepWhy → Type 0 where
+  bad_draft : {rules : List RuleTree} {d : DraftTree} {ds : List DraftTree} {n : ℕ} {w : StepWhy} → FirstBad S rules d n w → FirstBadDraft S rules (d ∷ ds) d.rule.name n w
+  later_draft : {rules : List RuleTree} {d : DraftTree} {ds : List DraftTree} {m : List ℕ} {n : ℕ} {w : StepWhy} → Valid S rules d → FirstBadDraft S (rules ++ d.rule ∷ []) ds m n w → FirstBadDraft S rules (d ∷ ds) m n w

@@ -4,14 +4,14 @@ ghost use Rattle.std.specs.Prelude.{◌≡◌, [], ◌∷◌, ◌++◌, map, IfO
 ghost use Rattle.kola_rule.specs.RuleViews.{rule_tree, draft_tree};
 ghost use Rattle.kola_match.specs.Holding.{Holds};
 ghost use Rattle.kola_laws.specs.Laws.{laws};
-ghost use Rattle.kola_proof.specs.Accepting.{IsAccepted, IsVerdict, handed_back};
+ghost use Rattle.kola_proof.specs.Accepting.{IsAccepted, IsVerdict, handed_back, rules_of, IsFileVerdict, HasGrown};
 
 use crate::draft::check;
-use crate::fault::{AdmitFault, CheckFault};
+use crate::fault::{AdmitFault, CheckFault, FileFault};
 use crate::table::add;
 use kola_core::Memory;
 use kola_laws::laws;
-use kola_rule::{Draft, RuleTable};
+use kola_rule::{Draft, Drafts, RuleTable};
 use kola_schema::Schema;
 use std::alloc::Global;
 use std::marker::Model;
@@ -101,5 +101,20 @@ impl Accepted {
             Err(CheckFault::At(step, why)) => Err(AdmitFault::Refused { step, why, draft }),
             Err(CheckFault::Memory) => Err(AdmitFault::Memory { draft }),
         }
+    }
+
+    /// Accepts the rules of the drafts of a file, in their order, each as `admit` does: by the laws and the rules before
+    /// it. `Refused` names the first draft that has a fault. With every fault the rules of the drafts before it stay
+    /// accepted. It takes time by the text of the drafts.
+    pub fn admit_all(&mut self, drafts: Drafts) -> Result<(), FileFault>
+        ensures verdict { IsFileVerdict self.old.schema (map rule_tree self.old.rules) (map draft_tree drafts) result }
+        ensures all { OnOk result (self.new.rules ≡ self.old.rules ++ rules_of drafts) }
+        ensures grown { HasGrown self.old.rules self.new.rules drafts }
+        ensures schema { self.new.schema ≡ self.old.schema }
+    {
+        for draft in drafts.into_vec() {
+            self.admit(draft)?;
+        }
+        Ok(())
     }
 }

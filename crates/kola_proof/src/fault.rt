@@ -1,7 +1,10 @@
 //! Why a draft is refused.
 
-use kola_core::Memory;
-use kola_rule::Draft;
+ghost use Rattle.std.specs.Prelude.{◌≡◌};
+ghost use Rattle.kola_proof.specs.CauseNames.{step_name};
+
+use kola_core::{Memory, Name};
+use kola_rule::{Draft, Rule};
 
 /// What is wrong with a draft.
 #[derive(Debug, Clone, Copy, PartialEq, Eq)]
@@ -24,6 +27,25 @@ pub enum StepWhy {
     ConditionNotShown,
     /// The last term is not the right side.
     LastIsNotRight,
+}
+
+impl StepWhy {
+    /// The cause's name, as it is printed.
+    pub fn name(self) -> &'static str
+        ensures { result.now ≡ step_name self }
+    {
+        match self {
+            StepWhy::NameTaken => "NameTaken",
+            StepWhy::RuleIllTyped => "RuleIllTyped",
+            StepWhy::FirstIsNotLeft => "FirstIsNotLeft",
+            StepWhy::UnknownLaw => "UnknownLaw",
+            StepWhy::NoSuchPath => "NoSuchPath",
+            StepWhy::StepIllTyped => "StepIllTyped",
+            StepWhy::NoInstance => "NoInstance",
+            StepWhy::ConditionNotShown => "ConditionNotShown",
+            StepWhy::LastIsNotRight => "LastIsNotRight",
+        }
+    }
 }
 
 /// Why a draft is not accepted. It is handed back.
@@ -54,6 +76,49 @@ impl From<(Memory, Draft)> for AdmitFault {
     fn from(refused: (Memory, Draft)) -> AdmitFault {
         let (_, draft) = refused;
         AdmitFault::Memory { draft }
+    }
+}
+
+/// Why the drafts of a file are not accepted.
+#[derive(Drop)]
+pub enum FileFault {
+    /// The first draft that has a fault.
+    Refused {
+        /// The name of its rule.
+        name: Name,
+        /// The number of the step, counted from 1, or 0.
+        step: usize,
+        /// The cause.
+        why: StepWhy,
+    },
+    /// Want of memory.
+    Memory,
+}
+
+/// The name of the rule of a draft.
+fn name_of(draft: Draft) -> Name
+    ensures { result ≡ draft.rule.name }
+{
+    let Draft { rule, .. } = draft;
+    let Rule { name, .. } = rule;
+    name
+}
+
+impl From<AdmitFault> for FileFault {
+    ghost use Rattle.std.specs.Prelude.{◌≡◌};
+    ghost use Rattle.kola_proof.specs.Accepting.{file_fault};
+
+    ghost from_gives = { λ fault e. e ≡ file_fault fault };
+
+    fn from(fault: AdmitFault) -> FileFault {
+        match fault {
+            AdmitFault::Refused { step, why, draft } => FileFault::Refused {
+                name: name_of(draft),
+                step,
+                why,
+            },
+            AdmitFault::Memory { .. } => FileFault::Memory,
+        }
     }
 }
 

@@ -3,10 +3,10 @@ use Rattle.std.proofs.lemmas.List.{drop_all}
 use Rattle.kola_core.proofs.Lists.{left_less, length_seen}
 use Rattle.kola_term.specs.TermView.{term_tree}
 use Rattle.kola_rule.specs.RuleViews.{rule_tree, step_tree}
-use Rattle.kola_proof.specs.Checks.{IsStep, Underway}
+use Rattle.kola_proof.specs.Checks.{IsStep}
 use Rattle.kola_proof.specs.Drafts.{StepsBad}
 use Rattle.kola_proof.specs.declared.fault.StepWhy.TheVariants as why
-use Rattle.kola_proof.proofs.StepLaws.{underway_on, underway_end, underway_last, numbered_fault}
+use Rattle.kola_proof.proofs.StepLaws.{Underway, underway_on, underway_end, underway_last, numbered_fault}
 use Rattle.kola_proof.proofs.draft.check_steps.Goals as goal
 
 pub returns-in-Err : goal.returns-in-Err

@@ -1,7 +1,7 @@
 use Rattle.std.proofs.Common.{map, drop}
 use Rattle.kola_term.specs.TermView.{term_tree}
 use Rattle.kola_rule.specs.RuleViews.{rule_tree, step_tree}
-use Rattle.kola_proof.specs.Checks.{Underway}
+use Rattle.kola_proof.proofs.StepLaws.{Underway}
 use Rattle.kola_proof.proofs.draft.check_steps.Given as goal
 
 abbrev pub invariant-loop-i : goal.invariant-loop-i

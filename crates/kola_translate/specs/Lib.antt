@@ -1,1 +1,4 @@
 pub mod Translation
+pub mod TranslationAnswers
+pub mod Building
+pub mod Parts

@@ -2,10 +2,9 @@
 
 use crate::samples::{Broken, boxed};
 use kola_core::{Items, Name, Text};
-use oql_syntax::{
-    BoxedExpr, Chain, Expr, Form, Lit, NamedExprs, Query, QueryFault, QueryWhy, SetChain, Sign,
-    print_query, read_query,
-};
+use oql_print::print_query;
+use oql_syntax::{QueryFault, QueryWhy, read_query};
+use oql_tree::{BoxedExpr, Chain, Expr, Form, Lit, NamedExprs, Query, SetChain, Sign};
 use std::alloc::Global;
 use std::test::Fail;
 

@@ -31,7 +31,7 @@ use Rattle.kola_top.proofs.FoundLaws.{IsLayout, walk_is}
 use Rattle.kola_top.proofs.FormReads.{form_reads}
 use Rattle.kola_top.proofs.QueryReading.{read_query, no_query}
 use Rattle.kola_top.proofs.QueryTextLaws.{spelled_once}
-use Rattle.oql_syntax.specs.QueryTrees.{QueryTree}
+use Rattle.oql_tree.specs.QueryTrees.{QueryTree}
 use Rattle.oql_syntax.specs.QueryFaults.{QueryCause}
 use Rattle.oql_syntax.specs.QueryAnswers.{SpellsQuery, IsQueryFault}
 

@@ -1,7 +1,7 @@
 -- Each text spells a query or is at fault first at one place, for one cause, and not both.
 use Rattle.std.proofs.Common.{◌≡◌, ◌⊎◌, ℕ, List}
 use Rattle.oql_syntax.specs.Limits.{greatest_query, QueryWithin, query_within}
-use Rattle.oql_syntax.specs.QueryTrees.{QueryTree}
+use Rattle.oql_tree.specs.QueryTrees.{QueryTree}
 use Rattle.oql_syntax.specs.QueryFaults.{QueryCause}
 use Rattle.oql_syntax.specs.QueryAnswers.{SpellsQuery, IsQueryFault}
 use Rattle.oql_syntax.proofs.QueryFaultLaws.{query_once, spelled_or_fault, one_query_fault}

@@ -18,7 +18,7 @@ use Rattle.kola_top.specs.Layout.{lines_of, kinds, AreSections, IsFirstFault}
 use Rattle.kola_top.specs.SelectForm.{SelectForm}
 use Rattle.oql_syntax.specs.QueryAnswers.{SpellsQuery, IsQueryFault}
 use Rattle.oql_syntax.specs.QueryFaults.{QueryCause}
-use Rattle.oql_syntax.specs.QueryTrees.{QueryTree}
+use Rattle.oql_tree.specs.QueryTrees.{QueryTree}
 use Rattle.kola_top.specs.Report.{report_text}
 use Rattle.kola_top.specs.FaultLines.{usage_line, too_long_line, layout_fault_line, missing_line, query_fault_line, not_built_line, schema_line, database_line}
 use Rattle.kola_top.specs.Stages.{greatest_length, text_at, text_in, IsQuery, IsNoQuery}

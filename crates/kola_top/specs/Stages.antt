@@ -10,7 +10,7 @@ use Rattle.kola_base.specs.Tokens.{AreTokens}
 use Rattle.kola_base.specs.Lexemes.{lexemes}
 use Rattle.kola_top.specs.SelectForm.{SelectForm, Says}
 use Rattle.oql_syntax.specs.QueryAnswers.{SpellsQuery}
-use Rattle.oql_syntax.specs.QueryTrees.{QueryTree}
+use Rattle.oql_tree.specs.QueryTrees.{QueryTree}
 use Rattle.kola_values.specs.Databases.{Classes, Objects}
 use Rattle.serde_json.specs.Data.{Data}
 use Rattle.kola_load.specs.Loading.{db_of}

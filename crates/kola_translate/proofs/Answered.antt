@@ -6,7 +6,7 @@ use Rattle.kola_term.specs.Terms.{FunTree}
 use Rattle.kola_term.specs.Counts.{fun_nodes, fun_depth}
 use Rattle.kola_term.specs.Limits.{node_limit, depth_limit}
 use Rattle.kola_term.proofs.Inversions.{and_true, some_same}
-use Rattle.oql_syntax.specs.QueryTrees.{QueryTree}
+use Rattle.oql_tree.specs.QueryTrees.{QueryTree}
 use Rattle.kola_translate.specs.Translation.{translation}
 use Rattle.kola_translate.specs.Building.{and_then, function_of, build}
 use Rattle.kola_translate.proofs.Limited.{within, made_if, limited_fun}

@@ -9,9 +9,9 @@ use Rattle.kola_term.specs.Limits.{depth_limit}
 use Rattle.kola_term.specs.Literals.{set_type}
 use Rattle.kola_term.specs.Counts.{fun_nodes, pred_nodes, fun_depth, pred_depth}
 use Rattle.kola_term.specs.Terms.{CInt, CBool, CStr, CSet, CExtent, FunTree, FId, FFst, FSnd, FFlat, FUnion, FIsect, FMinus, FAttr, FComp, FPair, FK, FIf, FIter, PredTree, PEq, PAt, PAnd, POr, PNot, PKP, PEx, PFa}
-use Rattle.oql_syntax.specs.QueryTrees.{LitTree, LitInt, LitStr, LitBool, QueryTree, QName, QLiteral, QSetOf, QPath, QStruct, QFlatten, QSomeMember, QNot, QIntersect, QAnd, QOr, QUnionExcept, QCompare, QExists, QForAll, QSelect, QueryLinks, NoLinks, Link, SetLinks, NoSets, SetLink, QueryFields, NoFields, QField, QueryRanges, NoRanges, QRange, QueryWhere, NoWhere, Where}
-use Rattle.oql_syntax.specs.declared.query.Sign.{Sign}
-use Rattle.oql_syntax.specs.declared.query.Sign.TheVariants as sign
+use Rattle.oql_tree.specs.QueryTrees.{LitTree, LitInt, LitStr, LitBool, QueryTree, QName, QLiteral, QSetOf, QPath, QStruct, QFlatten, QSomeMember, QNot, QIntersect, QAnd, QOr, QUnionExcept, QCompare, QExists, QForAll, QSelect, QueryLinks, NoLinks, Link, SetLinks, NoSets, SetLink, QueryFields, NoFields, QField, QueryRanges, NoRanges, QRange, QueryWhere, NoWhere, Where}
+use Rattle.oql_tree.specs.declared.query.Sign.{Sign}
+use Rattle.oql_tree.specs.declared.query.Sign.TheVariants as sign
 use Rattle.oql_check.specs.QueryTypes.{Scope}
 use Rattle.kola_translate.specs.Translation.{type_of_members, type_of_step, type_of, scope_behind, distance, variable, Translated, Function, Test, Truth, as_function, as_predicate, name_term, literal_term, literal_values, set_term, after, field_selector, step_term, path_term, intersect_term, union_except_term, and_term, or_term, compare_term, over, term_of, links_term, set_links_term, fields_term, ranges_term, where_term, tr, pr}
 use Rattle.kola_translate.specs.Building.{Building, and_then, node, as_function_part, as_test_part, function_of, predicate_of, name_built, literal_built, set_built, leaf_built, comp_built, pair_built, op_built, compare_nodes, compare_levels, compare_built, quantified_built, last_built, more_built, behind, later_built, selector_built, step_built, path_built, and_built, or_built, set_link_op, range_count, few_ranges, build, sets_built, tests_built, set_links_built, fields_built, ranges_built, where_built}

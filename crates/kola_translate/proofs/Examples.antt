@@ -3,9 +3,9 @@ use Rattle.std.proofs.Common.{◌≡◌, ℕ, pos, true, false, List, [], ◌∷
 use Rattle.kola_values.specs.Values.{ValueTree, VInt, VBool}
 use Rattle.kola_term.specs.Terms.{CInt, CBool, CSet, CExtent, FunTree, FId, FFst, FSnd, FFlat, FUnion, FMinus, FAttr, FComp, FPair, FK, FIf, FIter, PredTree, PEq, PLt, PLe, PMember, PAt, PAnd, POr, PNot, PKP, PEx, PFa}
 use Rattle.kola_term.proofs.Sample.{sample_schema}
-use Rattle.oql_syntax.specs.QueryTrees.{LitBool, QueryTree, QLiteral, QSetOf, QStruct, QFlatten, QSomeMember, QNot, QAnd, QOr, QUnionExcept, QCompare, QSelect, NoLinks, Link, NoSets, SetLink, NoFields, QField, QRange, NoWhere, Where}
-use Rattle.oql_syntax.specs.declared.query.Sign.{Sign}
-use Rattle.oql_syntax.specs.declared.query.Sign.TheVariants as sign
+use Rattle.oql_tree.specs.QueryTrees.{LitBool, QueryTree, QLiteral, QSetOf, QStruct, QFlatten, QSomeMember, QNot, QAnd, QOr, QUnionExcept, QCompare, QSelect, NoLinks, Link, NoSets, SetLink, NoFields, QField, QRange, NoWhere, Where}
+use Rattle.oql_tree.specs.declared.query.Sign.{Sign}
+use Rattle.oql_tree.specs.declared.query.Sign.TheVariants as sign
 use Rattle.kola_translate.proofs.SampleQueries.{named, number, one_label, one_range, ones, below_three, shadowed, hidden_extent, owners, years, all_of_none, some_before, picked, two_fields, one_field}
 use Rattle.kola_translate.specs.Translation.{translation, pr}
 

@@ -2,7 +2,7 @@
 use Rattle.std.proofs.Common.{◌≡◌, ℕ, List, refl}
 use Rattle.kola_values.specs.Types.{TypeTree, FieldTypes, TEnd, TField}
 use Rattle.kola_values.specs.Databases.{Classes}
-use Rattle.oql_syntax.specs.QueryTrees.{QueryTree, QueryFields, NoFields, QField}
+use Rattle.oql_tree.specs.QueryTrees.{QueryTree, QueryFields, NoFields, QField}
 use Rattle.oql_check.specs.QueryTypes.{Scope}
 use Rattle.oql_check.specs.TypedQueries.{HaveQueryTypes, f_end, f_field}
 

@@ -7,7 +7,7 @@ use Rattle.kola_term.specs.ContextView.{context_of}
 use Rattle.kola_term.specs.Faults.{Fine}
 use Rattle.kola_term.specs.TypingAnswers.{IsFine}
 use Rattle.kola_term.specs.declared.meta.MetaTy.{MetaTy}
-use Rattle.oql_syntax.specs.QueryTrees.{QueryTree}
+use Rattle.oql_tree.specs.QueryTrees.{QueryTree}
 use Rattle.kola_translate.specs.Translation.{translation}
 use Rattle.kola_translate.specs.Building.{and_then, function_of, build}
 use Rattle.kola_translate.specs.TranslationAnswers.{FitsAtUnit, IsCountable}

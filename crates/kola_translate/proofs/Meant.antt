@@ -16,7 +16,7 @@ use Rattle.kola_canon.specs.Encoding.{enc, enc_fields}
 use Rattle.kola_term.specs.Terms.{CExtent, FunTree, FId, FFst, FSnd, FFlat, FUnion, FIsect, FMinus, FAttr, FComp, FPair, FIter, PredTree, PEq, PMember, PAt, PKP, PEx, PFa}
 use Rattle.kola_term.specs.Meaning.{constant, extent_objects, den, holds_at}
 use Rattle.kola_term.proofs.Attributes.{attr_typed, objects_typed}
-use Rattle.oql_syntax.specs.QueryTrees.{LitTree, LitInt, LitStr, LitBool}
+use Rattle.oql_tree.specs.QueryTrees.{LitTree, LitInt, LitStr, LitBool}
 use Rattle.oql_check.specs.QueryTypes.{Scope}
 use Rattle.oql_check.specs.TypedQueries.{Leads, l_end, l_attribute, l_field}
 use Rattle.oql_check.specs.QueryMeaning.{Env, truth, literal_value, extent_value, name_value, step_value, path_value, intersect_value}

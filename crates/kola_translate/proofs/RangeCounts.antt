@@ -2,9 +2,9 @@
 use Rattle.std.proofs.Common.{◌≡◌, ℕ, suc, nat_le, List, [], ◌∷◌, length, map, refl, sym, ap, ◌∙◌}
 use Rattle.std.proofs.lemmas.List.{length-map}
 use Rattle.kola_core.specs.declared.name.Name.{Name}
-use Rattle.oql_syntax.specs.QueryTrees.{QueryTree, of_ranges}
-use Rattle.oql_syntax.specs.QueryViews.{named_entry}
-use Rattle.oql_syntax.specs.declared.query.Expr.{Expr}
+use Rattle.oql_tree.specs.QueryTrees.{QueryTree, of_ranges}
+use Rattle.oql_tree.specs.QueryViews.{named_entry}
+use Rattle.oql_tree.specs.declared.query.Expr.{Expr}
 use Rattle.kola_translate.specs.Building.{range_count}
 
 counted : (us : List (List ℕ × ℕ × QueryTree)) → length us ≡ range_count (of_ranges us)

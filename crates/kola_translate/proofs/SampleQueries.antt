@@ -1,7 +1,7 @@
 -- Queries over the sample schema, each with its text above it.
 use Rattle.std.proofs.Common.{ℕ, pos, true, List, [], ◌∷◌, codes}
-use Rattle.oql_syntax.specs.QueryTrees.{LitInt, QueryTree, QName, QLiteral, QSetOf, QPath, QStruct, QUnionExcept, QCompare, QExists, QForAll, QSelect, NoSets, SetLink, NoFields, QField, QueryRanges, NoRanges, QRange, NoWhere, Where}
-use Rattle.oql_syntax.specs.declared.query.Sign.TheVariants as sign
+use Rattle.oql_tree.specs.QueryTrees.{LitInt, QueryTree, QName, QLiteral, QSetOf, QPath, QStruct, QUnionExcept, QCompare, QExists, QForAll, QSelect, NoSets, SetLink, NoFields, QField, QueryRanges, NoRanges, QRange, NoWhere, Where}
+use Rattle.oql_tree.specs.declared.query.Sign.TheVariants as sign
 
 abbrev pub named : ℕ → List ℕ → QueryTree
 named at x = QName at x

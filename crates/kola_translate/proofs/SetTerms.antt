@@ -13,7 +13,7 @@ use Rattle.kola_values.proofs.Each.{each_map, each_canon}
 use Rattle.kola_canon.specs.Encoding.{enc}
 use Rattle.kola_term.specs.Literals.{literal_type, is_literal_of, each_literal, set_type_of, set_type}
 use Rattle.kola_term.proofs.SetConstants.{rising_from}
-use Rattle.oql_syntax.specs.QueryTrees.{LitTree, LitInt, LitStr, LitBool}
+use Rattle.oql_tree.specs.QueryTrees.{LitTree, LitInt, LitStr, LitBool}
 use Rattle.oql_check.specs.TypedQueries.{IsLiteral}
 use Rattle.oql_check.specs.QueryMeaning.{literal_value}
 use Rattle.oql_check.proofs.Means.{literal_typed}

@@ -13,7 +13,7 @@ use Rattle.kola_term.specs.Terms.{CBool, CExtent, FunTree, FId, FFst, FSnd, FFla
 use Rattle.kola_term.specs.Typing.{out, is_typed, const_type, twin_type, member_type, is_some_type}
 use Rattle.kola_term.proofs.Inversions.{some_same}
 use Rattle.kola_term.proofs.Introductions.{bind, pair_is, then_if, when_is, same_ty_itself}
-use Rattle.oql_syntax.specs.QueryTrees.{LitTree, LitInt, LitStr, LitBool, QueryTree, QueryLinks, SetLinks, QueryFields, NoFields, QField, QueryRanges, QRange, QueryWhere}
+use Rattle.oql_tree.specs.QueryTrees.{LitTree, LitInt, LitStr, LitBool, QueryTree, QueryLinks, SetLinks, QueryFields, NoFields, QField, QueryRanges, QRange, QueryWhere}
 use Rattle.oql_check.specs.QueryTypes.{Scope, has_range}
 use Rattle.oql_check.specs.TypedQueries.{IsLiteral, Leads, l_end, l_attribute, l_field, HasQueryType, t_variable, t_extent, t_literal, t_set, t_path, t_struct, t_flatten, t_some_member, t_not, t_intersect, t_and, t_or, t_union_except, t_eq, t_ne, t_lt, t_le, t_gt, t_ge, t_member, t_exists, t_for_all, t_select, SetsJoin, s_end, s_link, BoolsJoin, b_end, b_link, UnionsJoin, u_end, u_link, HaveQueryTypes, f_end, f_field, BindScope, r_end, r_range, IsCondition, w_none, w_where}
 use Rattle.kola_translate.specs.Translation.{type_or_unit, type_of_members, env_type, distance, Translated, Function, Test, Truth, as_function, as_predicate, name_term, literal_term, literal_values, set_term, after, field_selector, path_term, over, intersect_term, union_except_term, and_term, or_term, term_of, links_term, set_links_term, fields_term, ranges_term, where_term, tr, pr}

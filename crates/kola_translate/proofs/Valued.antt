@@ -10,7 +10,7 @@ use Rattle.kola_schema.specs.Schemas.{is_schema}
 use Rattle.kola_canon.specs.Encoding.{enc, enc_fields}
 use Rattle.kola_term.specs.Terms.{FunTree, FId, FFlat, FComp, FPair, FIter, PredTree, PAt, PKP, PEx, PFa}
 use Rattle.kola_term.specs.Meaning.{den, holds_at}
-use Rattle.oql_syntax.specs.QueryTrees.{QueryTree, QueryLinks, SetLinks, QueryFields, NoFields, QField, QueryRanges, QRange, QueryWhere}
+use Rattle.oql_tree.specs.QueryTrees.{QueryTree, QueryLinks, SetLinks, QueryFields, NoFields, QField, QueryRanges, QRange, QueryWhere}
 use Rattle.oql_check.specs.QueryTypes.{Scope, has_range}
 use Rattle.oql_check.specs.TypedQueries.{HasQueryType, t_variable, t_extent, t_literal, t_set, t_path, t_struct, t_flatten, t_some_member, t_not, t_intersect, t_and, t_or, t_union_except, t_eq, t_ne, t_lt, t_le, t_gt, t_ge, t_member, t_exists, t_for_all, t_select, SetsJoin, s_end, s_link, BoolsJoin, b_end, b_link, UnionsJoin, u_end, u_link, HaveQueryTypes, f_field, BindScope, r_end, r_range, IsCondition, w_none, w_where}
 use Rattle.oql_check.specs.QueryMeaning.{Env, truth, extent_value, intersect_value, union_except_value, and_value, or_value, path_value, mean, links_value, set_links_value, fields_value, rows, holds}

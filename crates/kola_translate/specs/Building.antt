@@ -9,9 +9,9 @@ use Rattle.kola_values.specs.Databases.{Classes}
 use Rattle.kola_term.specs.Limits.{node_limit, depth_limit}
 use Rattle.kola_term.specs.Literals.{set_type}
 use Rattle.kola_term.specs.Terms.{CInt, CBool, CStr, CSet, CExtent, FunTree, FId, FFst, FSnd, FFlat, FUnion, FIsect, FMinus, FAttr, FComp, FPair, FK, FIf, FIter, PredTree, PEq, PAt, PAnd, POr, PNot, PKP, PEx, PFa}
-use Rattle.oql_syntax.specs.QueryTrees.{LitTree, LitInt, LitStr, LitBool, QueryTree, QName, QLiteral, QSetOf, QPath, QStruct, QFlatten, QSomeMember, QNot, QIntersect, QAnd, QOr, QUnionExcept, QCompare, QExists, QForAll, QSelect, QueryLinks, NoLinks, Link, SetLinks, NoSets, SetLink, QueryFields, NoFields, QField, QueryRanges, NoRanges, QRange, QueryWhere, NoWhere, Where}
-use Rattle.oql_syntax.specs.declared.query.Sign.{Sign}
-use Rattle.oql_syntax.specs.declared.query.Sign.TheVariants as sign
+use Rattle.oql_tree.specs.QueryTrees.{LitTree, LitInt, LitStr, LitBool, QueryTree, QName, QLiteral, QSetOf, QPath, QStruct, QFlatten, QSomeMember, QNot, QIntersect, QAnd, QOr, QUnionExcept, QCompare, QExists, QForAll, QSelect, QueryLinks, NoLinks, Link, SetLinks, NoSets, SetLink, QueryFields, NoFields, QField, QueryRanges, NoRanges, QRange, QueryWhere, NoWhere, Where}
+use Rattle.oql_tree.specs.declared.query.Sign.{Sign}
+use Rattle.oql_tree.specs.declared.query.Sign.TheVariants as sign
 use Rattle.oql_check.specs.QueryTypes.{Scope}
 use Rattle.kola_translate.specs.Translation.{type_of_members, type_of_step, type_of, distance, variable, Translated, Function, Test, Truth, literal_values, compare_term, over}
 

@@ -9,7 +9,7 @@ use Rattle.kola_term.specs.Faults.{Fits}
 use Rattle.kola_term.specs.TypingAnswers.{IsFine}
 use Rattle.kola_term.specs.TermView.{fun_tree}
 use Rattle.kola_term.specs.declared.term.Fun.{Fun}
-use Rattle.oql_syntax.specs.QueryTrees.{QueryTree}
+use Rattle.oql_tree.specs.QueryTrees.{QueryTree}
 use Rattle.kola_translate.specs.Translation.{translation}
 use Rattle.kola_translate.specs.declared.fault.TranslateFault.{TranslateFault}
 use Rattle.kola_translate.specs.declared.fault.TranslateFault.TheVariants.{TooLarge, Memory}

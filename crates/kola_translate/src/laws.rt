@@ -8,7 +8,7 @@ ghost use Rattle.kola_schema.specs.Schemas.{is_schema};
 ghost use Rattle.kola_canon.specs.Encoding.{enc, enc_type};
 ghost use Rattle.kola_term.specs.Meaning.{den, holds_at};
 ghost use Rattle.kola_term.specs.Typing.{out, is_typed};
-ghost use Rattle.oql_syntax.specs.QueryTrees.{QueryTree};
+ghost use Rattle.oql_tree.specs.QueryTrees.{QueryTree};
 ghost use Rattle.oql_check.specs.QueryTypes.{Scope};
 ghost use Rattle.oql_check.specs.TypedQueries.{HasQueryType};
 ghost use Rattle.oql_check.specs.QueryMeaning.{Env, truth, mean};

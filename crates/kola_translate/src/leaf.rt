@@ -8,7 +8,7 @@ ghost use Rattle.kola_values.specs.Views.{type_tree, value_tree};
 ghost use Rattle.kola_term.specs.Literals.{set_type};
 ghost use Rattle.kola_term.specs.TermView.{const_tree};
 ghost use Rattle.kola_term.specs.Terms.{CInt, CStr, FK, CSet};
-ghost use Rattle.oql_syntax.specs.QueryViews.{lit_tree, literal_entry};
+ghost use Rattle.oql_tree.specs.QueryViews.{lit_tree, literal_entry};
 ghost use Rattle.oql_check.specs.Checking.{literal_form};
 ghost use Rattle.oql_check.specs.QueryMeaning.{literal_value};
 ghost use Rattle.kola_translate.specs.Translation.{type_of_name, type_of_extent, type_of_literals, distance, literal_values};
@@ -22,7 +22,7 @@ use kola_core::{Memory, Name};
 use kola_schema::Schema;
 use kola_term::{Const, LitSet};
 use kola_values::{BoxedTy, Set, Ty, Value};
-use oql_syntax::{Lit, LitList};
+use oql_tree::{Lit, LitList};
 use std::alloc::Global;
 
 // ---- names

@@ -10,7 +10,7 @@ ghost use Rattle.kola_translate.specs.Parts.{Builds, fun_view, pred_view, part_v
 use crate::fault::TranslateFault;
 use kola_core::{Memory, Name};
 use kola_term::{Const, Fun, Pred};
-use oql_syntax::Sign;
+use oql_tree::Sign;
 use std::alloc::Global;
 
 /// The most nodes of a term.

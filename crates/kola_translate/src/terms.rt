@@ -2,8 +2,8 @@
 
 ghost use Rattle.std.specs.Prelude.{◌≡◌, ◌++◌, [], ◌∷◌, true, nat_le, map, IfOk, OnOk};
 ghost use Rattle.kola_values.specs.Types.{TBool, TStruct, TEnd, type_fields, of_type_fields};
-ghost use Rattle.oql_syntax.specs.QueryTrees.{QCompare, QSelect, of_links, of_set_links, of_fields, of_ranges};
-ghost use Rattle.oql_syntax.specs.QueryViews.{query_tree, link_entry, set_link_entry, named_entry, where_of};
+ghost use Rattle.oql_tree.specs.QueryTrees.{QCompare, QSelect, of_links, of_set_links, of_fields, of_ranges};
+ghost use Rattle.oql_tree.specs.QueryViews.{query_tree, link_entry, set_link_entry, named_entry, where_of};
 ghost use Rattle.kola_term.specs.Terms.{FId, FFlat, PKP, PEx};
 ghost use Rattle.kola_term.specs.Limits.{depth_limit};
 ghost use Rattle.kola_translate.specs.Translation.{Test, type_of_members, type_of_path, type_of, types_of, scope_behind};
@@ -21,7 +21,7 @@ use crate::scope::Scope;
 use kola_core::{Memory, Name};
 use kola_schema::Schema;
 use kola_values::{BoxedTy, Fields, Ty};
-use oql_syntax::{BoxedExpr, Chain, Expr, Form, Labels, Ranges, Sign, StructList};
+use oql_tree::{BoxedExpr, Chain, Expr, Form, Labels, Ranges, Sign, StructList};
 use std::alloc::Global;
 
 /// The greatest depth of a term.

@@ -1,7 +1,7 @@
 //! The translation of a typed query.
 
 ghost use Rattle.kola_term.specs.TermView.{fun_tree};
-ghost use Rattle.oql_syntax.specs.QueryViews.{query_tree};
+ghost use Rattle.oql_tree.specs.QueryViews.{query_tree};
 ghost use Rattle.kola_translate.specs.TranslationAnswers.{IsTranslated, IsCounted, IsJudged};
 
 use crate::fault::TranslateFault;
@@ -12,7 +12,7 @@ use kola_schema::Schema;
 use kola_term::{Fun, MetaCtx, TypeFault, out_type};
 use kola_values::Ty;
 use oql_check::Typed;
-use oql_syntax::Query;
+use oql_tree::Query;
 use std::alloc::Global;
 
 /// The translation, where it has at most 20,000 nodes and a depth of at most 256.

@@ -15,10 +15,10 @@ use Rattle.kola_values.specs.Databases.{Classes, look_up}
 use Rattle.kola_values.specs.Types.{TypeTree, TBool, TSet, TStruct, FieldTypes, TEnd, TField, same_type, type_fields, of_type_fields}
 use Rattle.kola_values.specs.Views.{type_tree, type_entry}
 use Rattle.kola_values.specs.declared.ty.Ty.{Ty}
-use Rattle.oql_syntax.specs.QueryTrees.{QueryTree, QSelect, QueryRanges, QRange, NoRanges, QueryWhere, of_links, of_set_links, of_fields, of_ranges}
-use Rattle.oql_syntax.specs.QueryViews.{query_tree, lit_tree, literal_entry, link_entry, set_link_entry, named_entry}
-use Rattle.oql_syntax.specs.declared.query.Expr.{Expr}
-use Rattle.oql_syntax.specs.declared.query.Lit.{Lit}
+use Rattle.oql_tree.specs.QueryTrees.{QueryTree, QSelect, QueryRanges, QRange, NoRanges, QueryWhere, of_links, of_set_links, of_fields, of_ranges}
+use Rattle.oql_tree.specs.QueryViews.{query_tree, lit_tree, literal_entry, link_entry, set_link_entry, named_entry}
+use Rattle.oql_tree.specs.declared.query.Expr.{Expr}
+use Rattle.oql_tree.specs.declared.query.Lit.{Lit}
 use Rattle.oql_check.specs.declared.fault.CheckFault.{CheckFault}
 use Rattle.oql_check.specs.declared.fault.CheckFault.TheVariants.{At, Memory}
 use Rattle.oql_check.specs.declared.fault.CheckWhy.TheVariants as why

@@ -7,7 +7,7 @@ use Rattle.kola_core.proofs.Integers.{in_range, is_in_range}
 use Rattle.kola_values.specs.Types.{TypeTree, TInt, TStr, TBool, TSet, same_type}
 use Rattle.kola_values.specs.Sets.{Each}
 use Rattle.kola_values.proofs.SameTypes.{same_type_itself, same_type_equal}
-use Rattle.oql_syntax.specs.QueryTrees.{LitTree, LitInt, LitStr, LitBool}
+use Rattle.oql_tree.specs.QueryTrees.{LitTree, LitInt, LitStr, LitBool}
 use Rattle.oql_check.specs.declared.fault.CheckWhy.{CheckWhy}
 use Rattle.oql_check.specs.declared.fault.CheckWhy.TheVariants as why
 use Rattle.oql_check.specs.Limits.{small, field_limit}

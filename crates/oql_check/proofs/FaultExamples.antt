@@ -1,8 +1,8 @@
 -- First faults of queries over the sample schema, computed: each cause with its place, and queries of two faults of which the order tells the first.
 use Rattle.std.proofs.Common.{ℕ, pos, true, false, [], ◌∷◌, refl, codes}
 use Rattle.kola_term.proofs.Sample.{sample_schema}
-use Rattle.oql_syntax.specs.QueryTrees.{LitInt, LitStr, LitBool, QueryTree, QLiteral, QSetOf, QStruct, QFlatten, QSomeMember, QNot, QAnd, QUnionExcept, QCompare, QExists, QForAll, QSelect, NoLinks, Link, NoSets, SetLink, NoFields, QField, NoRanges, QRange, NoWhere, Where}
-use Rattle.oql_syntax.specs.declared.query.Sign.TheVariants as sign
+use Rattle.oql_tree.specs.QueryTrees.{LitInt, LitStr, LitBool, QueryTree, QLiteral, QSetOf, QStruct, QFlatten, QSomeMember, QNot, QAnd, QUnionExcept, QCompare, QExists, QForAll, QSelect, NoLinks, Link, NoSets, SetLink, NoFields, QField, NoRanges, QRange, NoWhere, Where}
+use Rattle.oql_tree.specs.declared.query.Sign.TheVariants as sign
 use Rattle.oql_check.specs.declared.fault.CheckWhy.{CheckWhy}
 use Rattle.oql_check.specs.declared.fault.CheckWhy.TheVariants as why
 use Rattle.oql_check.specs.Limits.{small}

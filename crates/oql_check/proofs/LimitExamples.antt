@@ -2,7 +2,7 @@
 use Rattle.std.proofs.Common.{◌≡◌, ℕ, zero, suc, [], ◌∷◌, Ok, refl, codes}
 use Rattle.kola_values.specs.Types.{TypeTree, TInt, TClass, TSet, TStruct, TEnd, TField, type_nodes}
 use Rattle.kola_values.specs.Databases.{Classes}
-use Rattle.oql_syntax.specs.QueryTrees.{QueryTree, QStruct, QSelect, NoFields, QField, NoWhere}
+use Rattle.oql_tree.specs.QueryTrees.{QueryTree, QStruct, QSelect, NoFields, QField, NoWhere}
 use Rattle.oql_check.specs.declared.fault.CheckWhy.TheVariants as why
 use Rattle.oql_check.specs.Limits.{small, type_limit}
 use Rattle.oql_check.specs.QueryTypes.{Scope, query_type, FirstFault}

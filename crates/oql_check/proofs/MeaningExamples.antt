@@ -4,8 +4,8 @@ use Rattle.kola_values.specs.Values.{ValueTree, VInt, VStr, VBool, VObj, VStruct
 use Rattle.kola_values.specs.Order.{same}
 use Rattle.kola_values.specs.Sets.{any, all, set_of}
 use Rattle.kola_term.proofs.Sample.{sample_schema, sample_database}
-use Rattle.oql_syntax.specs.QueryTrees.{LitBool, QueryTree, QLiteral, QFlatten, QSomeMember, QNot, QIntersect, QAnd, QOr, QUnionExcept, QCompare, QSelect, NoLinks, Link, NoSets, SetLink, QRange, NoWhere}
-use Rattle.oql_syntax.specs.declared.query.Sign.TheVariants as sign
+use Rattle.oql_tree.specs.QueryTrees.{LitBool, QueryTree, QLiteral, QFlatten, QSomeMember, QNot, QIntersect, QAnd, QOr, QUnionExcept, QCompare, QSelect, NoLinks, Link, NoSets, SetLink, QRange, NoWhere}
+use Rattle.oql_tree.specs.declared.query.Sign.TheVariants as sign
 use Rattle.oql_check.specs.QueryMeaning.{mean}
 use Rattle.oql_check.proofs.QueryExamples.{named, number, one_label, one_range, numbers, ones, below_three, shadowed, hidden_extent, owners, years, no_vehicles, all_of_none, some_before, all_before, picked, two_fields, greatest, falling, one_field}
 

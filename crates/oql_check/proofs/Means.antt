@@ -10,7 +10,7 @@ use Rattle.kola_values.proofs.Each.{set_typed, each_map, each_filter, each_flat_
 use Rattle.kola_values.proofs.Typed.{members_typed}
 use Rattle.kola_term.proofs.Inversions.{some_same}
 use Rattle.kola_term.proofs.Attributes.{attr_typed, extent_at}
-use Rattle.oql_syntax.specs.QueryTrees.{LitTree, LitInt, LitStr, LitBool, QueryTree, QueryLinks, SetLinks, QueryFields, QueryRanges}
+use Rattle.oql_tree.specs.QueryTrees.{LitTree, LitInt, LitStr, LitBool, QueryTree, QueryLinks, SetLinks, QueryFields, QueryRanges}
 use Rattle.oql_check.specs.QueryTypes.{Scope}
 use Rattle.oql_check.specs.TypedQueries.{IsLiteral, Leads, l_end, l_attribute, l_field, HasQueryType, t_variable, t_extent, t_literal, t_set, t_path, t_struct, t_flatten, t_some_member, t_not, t_intersect, t_and, t_or, t_union_except, t_eq, t_ne, t_lt, t_le, t_gt, t_ge, t_member, t_exists, t_for_all, t_select, SetsJoin, s_end, s_link, BoolsJoin, b_end, b_link, UnionsJoin, u_end, u_link, HaveQueryTypes, f_end, f_field, BindScope, r_end, r_range}
 use Rattle.oql_check.specs.QueryMeaning.{Env, literal_value, extent_value, name_value, step_value, path_value, intersect_value, union_except_value, and_value, or_value, mean, links_value, set_links_value, fields_value, rows, holds}

@@ -2,7 +2,7 @@
 use Rattle.std.proofs.Common.{◌≡◌, ℕ, ◌⊎◌, inl, inr, ◌↔◌, Ok, Err, refl, sym, ap, ◌∙◌}
 use Rattle.kola_values.specs.Types.{TypeTree}
 use Rattle.kola_values.specs.Databases.{Classes}
-use Rattle.oql_syntax.specs.QueryTrees.{QueryTree}
+use Rattle.oql_tree.specs.QueryTrees.{QueryTree}
 use Rattle.oql_check.specs.declared.fault.CheckWhy.{CheckWhy}
 use Rattle.oql_check.specs.QueryTypes.{Scope, Checked, query_type, FirstFault}
 use Rattle.oql_check.specs.TypedQueries.{HasQueryType}

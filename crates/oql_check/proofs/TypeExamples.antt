@@ -2,8 +2,8 @@
 use Rattle.std.proofs.Common.{◌≡◌, true, false, [], ◌∷◌, Ok, refl, codes}
 use Rattle.kola_values.specs.Types.{TypeTree, TInt, TStr, TBool, TClass, TSet, TStruct, TEnd, TField}
 use Rattle.kola_term.proofs.Sample.{sample_schema}
-use Rattle.oql_syntax.specs.QueryTrees.{LitBool, QueryTree, QLiteral, QPath, QStruct, QFlatten, QSomeMember, QNot, QIntersect, QAnd, QOr, QUnionExcept, QCompare, NoLinks, Link, NoSets, SetLink, NoFields, QField, QSelect, NoWhere}
-use Rattle.oql_syntax.specs.declared.query.Sign.TheVariants as sign
+use Rattle.oql_tree.specs.QueryTrees.{LitBool, QueryTree, QLiteral, QPath, QStruct, QFlatten, QSomeMember, QNot, QIntersect, QAnd, QOr, QUnionExcept, QCompare, NoLinks, Link, NoSets, SetLink, NoFields, QField, QSelect, NoWhere}
+use Rattle.oql_tree.specs.declared.query.Sign.TheVariants as sign
 use Rattle.oql_check.specs.Limits.{small}
 use Rattle.oql_check.specs.QueryTypes.{query_type}
 use Rattle.oql_check.proofs.QueryExamples.{named, number, text, one_label, one_range, numbers, ones, below_three, shadowed, hidden_extent, owners, years, no_vehicles, all_of_none, some_before, picked, two_fields, greatest, falling, one_field, eight_fields_and}

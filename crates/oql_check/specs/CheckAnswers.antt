@@ -2,9 +2,9 @@
 use Rattle.std.specs.Prelude.{ℕ, List, [], Result, Ok, Err, ◌≡◌, codes}
 use Rattle.kola_values.specs.Databases.{Classes}
 use Rattle.kola_values.specs.Types.{TypeTree}
-use Rattle.oql_syntax.specs.QueryTrees.{QueryTree}
-use Rattle.oql_syntax.specs.QueryViews.{query_tree}
-use Rattle.oql_syntax.specs.declared.query.Expr.{Expr}
+use Rattle.oql_tree.specs.QueryTrees.{QueryTree}
+use Rattle.oql_tree.specs.QueryViews.{query_tree}
+use Rattle.oql_tree.specs.declared.query.Expr.{Expr}
 use Rattle.oql_check.specs.QueryTypes.{FirstFault}
 use Rattle.oql_check.specs.TypedQueries.{HasQueryType}
 use Rattle.oql_check.specs.declared.fault.CheckWhy.{CheckWhy}

@@ -1,7 +1,7 @@
 -- What the parts of the check answer each other.
 use Rattle.std.specs.Prelude.{ℕ, ◌++◌, Result, Ok, Err, ◌≡◌}
 use Rattle.kola_values.specs.Types.{TypeTree, TInt, TStr, TBool}
-use Rattle.oql_syntax.specs.QueryTrees.{LitTree, LitInt, LitStr, LitBool}
+use Rattle.oql_tree.specs.QueryTrees.{LitTree, LitInt, LitStr, LitBool}
 use Rattle.oql_check.specs.QueryTypes.{Scope, Checked, sets_type, bools_type}
 use Rattle.oql_check.specs.declared.join.Join.{Join}
 use Rattle.oql_check.specs.declared.join.Join.TheVariants.{Sets, Bools}

@@ -6,9 +6,9 @@ use Rattle.kola_values.specs.Values.{ValueTree, VUnit, VInt, VBool, VStr, VStruc
 use Rattle.kola_values.specs.Order.{cmp, same}
 use Rattle.kola_values.specs.Sets.{any, all, has, members, set_of}
 use Rattle.kola_values.specs.Databases.{Classes, Objects, attribute_of, objects_of, extent_class, look_up, value_or_unit}
-use Rattle.oql_syntax.specs.QueryTrees.{LitTree, LitInt, LitStr, LitBool, QueryTree, QName, QLiteral, QSetOf, QPath, QStruct, QFlatten, QSomeMember, QNot, QIntersect, QAnd, QOr, QUnionExcept, QCompare, QExists, QForAll, QSelect, QueryLinks, NoLinks, Link, SetLinks, NoSets, SetLink, QueryFields, NoFields, QField, QueryRanges, NoRanges, QRange, QueryWhere, NoWhere, Where}
-use Rattle.oql_syntax.specs.declared.query.Sign.{Sign}
-use Rattle.oql_syntax.specs.declared.query.Sign.TheVariants as sign
+use Rattle.oql_tree.specs.QueryTrees.{LitTree, LitInt, LitStr, LitBool, QueryTree, QName, QLiteral, QSetOf, QPath, QStruct, QFlatten, QSomeMember, QNot, QIntersect, QAnd, QOr, QUnionExcept, QCompare, QExists, QForAll, QSelect, QueryLinks, NoLinks, Link, SetLinks, NoSets, SetLink, QueryFields, NoFields, QField, QueryRanges, NoRanges, QRange, QueryWhere, NoWhere, Where}
+use Rattle.oql_tree.specs.declared.query.Sign.{Sign}
+use Rattle.oql_tree.specs.declared.query.Sign.TheVariants as sign
 
 -- the variables with their values, newest first
 abbrev pub Env : Type 0

@@ -5,9 +5,9 @@ use Rattle.kola_core.specs.Integers.{in_64}
 use Rattle.kola_core.specs.NameLists.{is_listed}
 use Rattle.kola_values.specs.Types.{TypeTree, TInt, TStr, TBool, TClass, TSet, TStruct, FieldTypes, TEnd, TField, same_type, type_fields}
 use Rattle.kola_values.specs.Databases.{Classes, attribute_type, extent_class, look_up}
-use Rattle.oql_syntax.specs.QueryTrees.{LitTree, LitInt, LitStr, LitBool, QueryTree, QName, QLiteral, QSetOf, QPath, QStruct, QFlatten, QSomeMember, QNot, QIntersect, QAnd, QOr, QUnionExcept, QCompare, QExists, QForAll, QSelect, QueryLinks, NoLinks, Link, SetLinks, NoSets, SetLink, QueryFields, NoFields, QField, QueryRanges, NoRanges, QRange, QueryWhere, NoWhere, Where}
-use Rattle.oql_syntax.specs.declared.query.Sign.{Sign}
-use Rattle.oql_syntax.specs.declared.query.Sign.TheVariants as sign
+use Rattle.oql_tree.specs.QueryTrees.{LitTree, LitInt, LitStr, LitBool, QueryTree, QName, QLiteral, QSetOf, QPath, QStruct, QFlatten, QSomeMember, QNot, QIntersect, QAnd, QOr, QUnionExcept, QCompare, QExists, QForAll, QSelect, QueryLinks, NoLinks, Link, SetLinks, NoSets, SetLink, QueryFields, NoFields, QField, QueryRanges, NoRanges, QRange, QueryWhere, NoWhere, Where}
+use Rattle.oql_tree.specs.declared.query.Sign.{Sign}
+use Rattle.oql_tree.specs.declared.query.Sign.TheVariants as sign
 use Rattle.oql_check.specs.declared.fault.CheckWhy.{CheckWhy}
 use Rattle.oql_check.specs.declared.fault.CheckWhy.TheVariants as why
 use Rattle.oql_check.specs.Limits.{small, field_limit}

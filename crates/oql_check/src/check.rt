@@ -2,7 +2,7 @@
 
 ghost use Rattle.std.specs.Prelude.{◌≡◌};
 ghost use Rattle.kola_values.specs.Views.{type_tree};
-ghost use Rattle.oql_syntax.specs.QueryViews.{query_tree};
+ghost use Rattle.oql_tree.specs.QueryViews.{query_tree};
 ghost use Rattle.oql_check.specs.CheckAnswers.{IsChecked};
 
 use crate::fault::CheckFault;
@@ -10,7 +10,7 @@ use crate::scope::Scope;
 use crate::typing::query_type;
 use kola_schema::Schema;
 use kola_values::{BoxedTy, Ty};
-use oql_syntax::Query;
+use oql_tree::Query;
 use std::alloc::Global;
 use std::marker::Model;
 
@@ -25,9 +25,9 @@ impl Model for Typed {
     ghost use Rattle.std.specs.Coded.{coded×};
     ghost use Rattle.kola_values.specs.Types.{TypeTree};
     ghost use Rattle.kola_values.specs.Models.TypeCode.{type_code};
-    ghost use Rattle.oql_syntax.specs.Models.QueryCode.{query_code};
-    ghost use Rattle.oql_syntax.specs.QueryTrees.{QueryTree};
-    ghost use Rattle.oql_syntax.specs.QueryViews.{query_tree};
+    ghost use Rattle.oql_tree.specs.Models.QueryCode.{query_code};
+    ghost use Rattle.oql_tree.specs.QueryTrees.{QueryTree};
+    ghost use Rattle.oql_tree.specs.QueryViews.{query_tree};
 
     ghost Value = { QueryTree × TypeTree };
 

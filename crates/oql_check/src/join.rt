@@ -7,13 +7,13 @@ ghost use Rattle.oql_check.specs.QueryTypes.{and_then, sized, set_at, bool_at, i
 ghost use Rattle.oql_check.specs.Checking.{Finds, IsType, join_type};
 ghost use Rattle.oql_check.specs.declared.fault.CheckFault.TheVariants as fault;
 ghost use Rattle.oql_check.specs.declared.fault.CheckWhy.TheVariants as why;
-ghost use Rattle.oql_syntax.specs.declared.query.Sign.TheVariants as sign;
+ghost use Rattle.oql_tree.specs.declared.query.Sign.TheVariants as sign;
 
 use crate::fault::{CheckFault, CheckWhy};
 use crate::size::{is_small_set, is_small_struct};
 use kola_core::Memory;
 use kola_values::{BoxedTy, Fields, Ty};
-use oql_syntax::Sign;
+use oql_tree::Sign;
 use std::alloc::Global;
 
 /// How the operands of a chain are joined.

@@ -4,7 +4,7 @@ ghost use Rattle.std.specs.Prelude.{◌≡◌, ℕ, true, Ok, ◌⊎◌, ◌↔�
 ghost use Rattle.kola_values.specs.Types.{TypeTree};
 ghost use Rattle.kola_values.specs.Databases.{Classes, Objects, HasType};
 ghost use Rattle.kola_schema.specs.Meets.{Meets};
-ghost use Rattle.oql_syntax.specs.QueryTrees.{QueryTree};
+ghost use Rattle.oql_tree.specs.QueryTrees.{QueryTree};
 ghost use Rattle.oql_check.specs.Limits.{small, AreSmall};
 ghost use Rattle.oql_check.specs.QueryTypes.{Scope, query_type, FirstFault};
 ghost use Rattle.oql_check.specs.TypedQueries.{HasQueryType};

@@ -3,14 +3,14 @@
 ghost use Rattle.std.specs.Prelude.{◌≡◌, ℕ, map, Ok, IfOk};
 ghost use Rattle.kola_values.specs.Types.{TSet, same_type};
 ghost use Rattle.kola_values.specs.Views.{type_tree};
-ghost use Rattle.oql_syntax.specs.QueryViews.{lit_tree, literal_entry, literal_entries};
+ghost use Rattle.oql_tree.specs.QueryViews.{lit_tree, literal_entry, literal_entries};
 ghost use Rattle.oql_check.specs.QueryTypes.{and_then, literal_type, alike, literals_type};
 ghost use Rattle.oql_check.specs.Checking.{Finds, IsType, literal_form};
 
 use crate::fault::{CheckFault, CheckWhy};
 use kola_core::Memory;
 use kola_values::{BoxedTy, Ty};
-use oql_syntax::{Lit, LitList};
+use oql_tree::{Lit, LitList};
 use std::alloc::Global;
 
 /// What every literal of the program keeps: its number has 64 bits.

@@ -15,7 +15,7 @@ use crate::size::is_small;
 use kola_core::Name;
 use kola_schema::Schema;
 use kola_values::{BoxedTy, Fields, Ty};
-use oql_syntax::Labels;
+use oql_tree::Labels;
 use std::alloc::Global;
 
 /// The type of the first field of the label; `None` where there is none.

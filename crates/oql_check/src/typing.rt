@@ -4,8 +4,8 @@ ghost use Rattle.std.specs.Prelude.{◌≡◌, [], ◌∷◌, ◌++◌, map, IfO
 ghost use Rattle.kola_values.specs.Databases.{look_up, extent_class};
 ghost use Rattle.kola_values.specs.Types.{TBool, TClass, TSet, of_type_fields};
 ghost use Rattle.kola_schema.specs.Schemas.{names_of};
-ghost use Rattle.oql_syntax.specs.QueryTrees.{QExists, QSelect, QRange, NoRanges, of_links, of_set_links, of_fields, of_ranges};
-ghost use Rattle.oql_syntax.specs.QueryViews.{query_tree, link_entry, set_link_entry, where_of};
+ghost use Rattle.oql_tree.specs.QueryTrees.{QExists, QSelect, QRange, NoRanges, of_links, of_set_links, of_fields, of_ranges};
+ghost use Rattle.oql_tree.specs.QueryViews.{query_tree, link_entry, set_link_entry, where_of};
 ghost use Rattle.oql_check.specs.QueryTypes.{and_then, provided, set_at, bool_at, sized, compare_type, has_range, name_type, path_type, query_type, links_type, set_links_type, fields_type, ranges_scope, where_type, label_at};
 ghost use Rattle.oql_check.specs.Checking.{Finds, IsType, Binds, EndsIn, join_type};
 
@@ -19,7 +19,7 @@ use crate::scope::Scope;
 use kola_core::{Memory, Name};
 use kola_schema::{Schema, has_label};
 use kola_values::{BoxedTy, Fields, Ty};
-use oql_syntax::{BoxedExpr, Expr, Form, Labels, Ranges, Sign, StructList};
+use oql_tree::{BoxedExpr, Expr, Form, Labels, Ranges, Sign, StructList};
 use std::alloc::Global;
 
 /// The most fields of a struct.

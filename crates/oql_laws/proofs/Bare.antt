@@ -4,7 +4,7 @@ use Rattle.std.specs.Prelude.{nat_le}
 use Rattle.std.proofs.lemmas.List.{append-nil}
 use Rattle.kola_base.specs.Placed.{Placed}
 use Rattle.oql_syntax.specs.Grammar.{Text, Deeper, PrimText, PathText, MeetText, SetsText, CmpText, NotText, AndText, OrText, FullText}
-use Rattle.oql_syntax.specs.QueryTrees.{QueryTree}
+use Rattle.oql_tree.specs.QueryTrees.{QueryTree}
 use Rattle.oql_laws.proofs.Places.{Place, place_number}
 use Rattle.oql_laws.proofs.Places as class
 

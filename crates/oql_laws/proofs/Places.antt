@@ -1,7 +1,7 @@
 -- The places of a query by what they take bare, each with the number of its class, and the place that takes a query by its root.
 use Rattle.std.specs.Prelude.{◌≡◌, ℕ, Bool, ◌||◌, ◌&&◌, not, nat_le, List, refl}
-use Rattle.oql_syntax.specs.QuerySpelling.{class_number, class_of, is_quantifier, bare_or_not, spelling}
-use Rattle.oql_syntax.specs.QueryTrees.{QueryTree, QName, QLiteral, QSetOf, QPath, QStruct, QFlatten, QSomeMember, QNot, QIntersect, QAnd, QOr, QUnionExcept, QCompare, QExists, QForAll, QSelect}
+use Rattle.oql_print.specs.QuerySpelling.{class_number, class_of, is_quantifier, bare_or_not, spelling}
+use Rattle.oql_tree.specs.QueryTrees.{QueryTree, QName, QLiteral, QSetOf, QPath, QStruct, QFlatten, QSomeMember, QNot, QIntersect, QAnd, QOr, QUnionExcept, QCompare, QExists, QForAll, QSelect}
 
 pub data Place : Type 0 where
   Full : Place

@@ -2,8 +2,8 @@
 use Rattle.std.proofs.Common.{◌≡◌, ◌≤◌, ℕ, zero, suc, Bool, true, false, not, ◌&&◌, ◌||◌, refl, sym, subst, arith, leb-true, le-leb}
 use Rattle.std.specs.Prelude.{nat_le}
 use Rattle.std.proofs.lemmas.Bool.{and_parts, and_from}
-use Rattle.oql_syntax.specs.QuerySpelling.{class_number, class_of, is_quantifier}
-use Rattle.oql_syntax.specs.QueryTrees.{QueryTree, QName, QLiteral, QSetOf, QPath, QStruct, QFlatten, QSomeMember, QNot, QIntersect, QAnd, QOr, QUnionExcept, QCompare, QExists, QForAll, QSelect, QueryLinks, NoLinks, Link, SetLinks, NoSets, SetLink, QueryFields, NoFields, QField, QueryRanges, NoRanges, QRange, QueryWhere, NoWhere, Where}
+use Rattle.oql_print.specs.QuerySpelling.{class_number, class_of, is_quantifier}
+use Rattle.oql_tree.specs.QueryTrees.{QueryTree, QName, QLiteral, QSetOf, QPath, QStruct, QFlatten, QSomeMember, QNot, QIntersect, QAnd, QOr, QUnionExcept, QCompare, QExists, QForAll, QSelect, QueryLinks, NoLinks, Link, SetLinks, NoSets, SetLink, QueryFields, NoFields, QField, QueryRanges, NoRanges, QRange, QueryWhere, NoWhere, Where}
 use Rattle.oql_laws.proofs.Places.{Place, place_number, taken}
 use Rattle.oql_laws.proofs.Places as class
 use Rattle.oql_laws.proofs.Printable.{Inside, FitsBy, open_before, Fits, FitLinks, FitSets, FitFields, FitRanges, FitWhere, FitsAt}

@@ -6,8 +6,8 @@ use Rattle.kola_base.specs.Spelled.{Spells}
 use Rattle.kola_base.proofs.Alone.{opens, apart}
 use Rattle.kola_base.proofs.Printed.{Says, says_nothing, tokens_said}
 use Rattle.oql_syntax.specs.Grammar.{QueryText, deeper_texts}
-use Rattle.oql_syntax.specs.QuerySpelling.{spelling, query_spelling}
-use Rattle.oql_syntax.specs.QueryTrees.{QueryTree}
+use Rattle.oql_print.specs.QuerySpelling.{spelling, query_spelling}
+use Rattle.oql_tree.specs.QueryTrees.{QueryTree}
 use Rattle.oql_laws.specs.Unplaced.{unplaced}
 use Rattle.oql_laws.proofs.Printable.{Fits}
 use Rattle.oql_laws.proofs.Sounding.{first_of, tokens_sounding}

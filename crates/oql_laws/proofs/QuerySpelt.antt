@@ -15,9 +15,9 @@ use Rattle.kola_spelt.proofs.TokensSpelt.{Token, word_token}
 use Rattle.oql_syntax.specs.Alphabet.{KSign, KWord, kind, query_word_spelling}
 use Rattle.oql_syntax.specs.Grammar.{Text, ◌▸◌, at, VariableText, PartedByCommas, OperandsText, Deeper, FieldText, PathText, MeetText, union_word, PrefixedText, RangeText, WhereText, deeper_texts}
 use Rattle.oql_syntax.specs.QueryParts.{chain_tree, union_tree}
-use Rattle.oql_syntax.specs.QuerySpelling.{class_of, takes, bare_or_not, further_literal, literal_spelling, comparison_spelling, spelling, spelling_at, operands_spelling, set_links_spelling, fields_spelling, further_fields, ranges_spelling, further_ranges, where_spelling}
-use Rattle.oql_syntax.specs.QueryTrees.{LitTree, QueryTree, QName, QLiteral, QSetOf, QPath, QStruct, QFlatten, QSomeMember, QNot, QIntersect, QAnd, QOr, QUnionExcept, QCompare, QExists, QForAll, QSelect, QueryLinks, NoLinks, Link, SetLinks, NoSets, SetLink, QueryFields, NoFields, QField, QueryRanges, NoRanges, QRange, QueryWhere, NoWhere, Where, links, set_links, fields, ranges, of_links, of_set_links}
-use Rattle.oql_syntax.specs.declared.query.Sign.{Sign}
+use Rattle.oql_print.specs.QuerySpelling.{class_of, takes, bare_or_not, further_literal, literal_spelling, comparison_spelling, spelling, spelling_at, operands_spelling, set_links_spelling, fields_spelling, further_fields, ranges_spelling, further_ranges, where_spelling}
+use Rattle.oql_tree.specs.QueryTrees.{LitTree, QueryTree, QName, QLiteral, QSetOf, QPath, QStruct, QFlatten, QSomeMember, QNot, QIntersect, QAnd, QOr, QUnionExcept, QCompare, QExists, QForAll, QSelect, QueryLinks, NoLinks, Link, SetLinks, NoSets, SetLink, QueryFields, NoFields, QField, QueryRanges, NoRanges, QRange, QueryWhere, NoWhere, Where, links, set_links, fields, ranges, of_links, of_set_links}
+use Rattle.oql_tree.specs.declared.query.Sign.{Sign}
 use Rattle.oql_laws.proofs.Places.{Place, taken, put}
 use Rattle.oql_laws.proofs.Places as class
 use Rattle.oql_syntax.specs.declared.word.QueryWord.{QueryWord}

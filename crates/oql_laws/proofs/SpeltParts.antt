@@ -24,10 +24,10 @@ use Rattle.kola_spelt.proofs.TokensSpelt.{Token, word_token, number_token, strin
 use Rattle.oql_syntax.specs.Alphabet.{KSign, KName, kind, query_word_named}
 use Rattle.oql_syntax.specs.Grammar.{Text, ◌▸◌, at, NameAtText, VariableText, LabelText, LiteralText, ComparisonAt, FieldText, RangeText, deeper_texts, union_word}
 use Rattle.oql_syntax.specs.QueryParts.{named, literal_of, comparison_of}
-use Rattle.oql_syntax.specs.QuerySpelling.{class_number, class_of, is_quantifier, bare_or_not, literal_spelling, further_literal, label_spelling, comparison_spelling, union_spelling, spelling}
-use Rattle.oql_syntax.specs.QueryTrees.{LitTree, LitInt, LitStr, LitBool, QueryTree}
-use Rattle.oql_syntax.specs.declared.query.Sign as query
-use Rattle.oql_syntax.specs.declared.query.Sign.TheVariants as c
+use Rattle.oql_print.specs.QuerySpelling.{class_number, class_of, is_quantifier, bare_or_not, literal_spelling, further_literal, label_spelling, comparison_spelling, union_spelling, spelling}
+use Rattle.oql_tree.specs.QueryTrees.{LitTree, LitInt, LitStr, LitBool, QueryTree}
+use Rattle.oql_tree.specs.declared.query.Sign as query
+use Rattle.oql_tree.specs.declared.query.Sign.TheVariants as c
 use Rattle.oql_syntax.specs.declared.word.QueryWord.TheVariants as q
 use Rattle.oql_syntax.proofs.QuerySymbols.{sign_is, word_is}
 use Rattle.oql_laws.specs.Unplaced.{unplaced, unplaced_literal, unplaced_label}

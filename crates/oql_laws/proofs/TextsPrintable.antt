@@ -15,7 +15,7 @@ use Rattle.kola_parse.specs.Texts.{◌·◌, ends}
 use Rattle.oql_syntax.specs.Alphabet.{KSign, KWord, KName, kind, query_word_named}
 use Rattle.oql_syntax.specs.Grammar.{Text, ◌▸◌, at, NameAtText, VariableText, LabelText, LiteralText, PartedByCommas, OperandsText, Deeper, nowhere, FieldText, ItselfText, PrimText, PathText, MeetText, union_word, SetsText, ComparedText, CmpText, PrefixedText, NotText, AndText, OrText, RangeText, WhereText, SelectText, FullText, deeper_texts}
 use Rattle.oql_syntax.specs.QueryParts.{named, literal_of, path_tree, chain_tree, union_tree, comparison_of}
-use Rattle.oql_syntax.specs.QueryTrees.{LitTree, QueryTree, QName, QLiteral, QSetOf, QStruct, QFlatten, QSomeMember, QNot, QIntersect, QAnd, QOr, QCompare, QExists, QForAll, QSelect, QueryLinks, NoLinks, Link, QueryFields, NoFields, QField, QueryRanges, NoRanges, QRange, QueryWhere, NoWhere, Where, links, set_links, fields, ranges, of_links, of_set_links}
+use Rattle.oql_tree.specs.QueryTrees.{LitTree, QueryTree, QName, QLiteral, QSetOf, QStruct, QFlatten, QSomeMember, QNot, QIntersect, QAnd, QOr, QCompare, QExists, QForAll, QSelect, QueryLinks, NoLinks, Link, QueryFields, NoFields, QField, QueryRanges, NoRanges, QRange, QueryWhere, NoWhere, Where, links, set_links, fields, ranges, of_links, of_set_links}
 use Rattle.oql_laws.proofs.Places.{Place, taken}
 use Rattle.oql_laws.proofs.Places as class
 use Rattle.oql_syntax.specs.declared.word.QueryWord.{QueryWord}

@@ -1,7 +1,7 @@
 -- Queries without their places, computed.
 use Rattle.std.proofs.Common.{◌≡◌, pos, true, [], ◌∷◌, refl, codes}
-use Rattle.oql_syntax.specs.QueryTrees.{LitInt, LitStr, QueryTree, QName, QLiteral, QSetOf, QPath, QStruct, QFlatten, QSomeMember, QNot, QIntersect, QAnd, QOr, QUnionExcept, QCompare, QExists, QForAll, QSelect, NoLinks, Link, NoSets, SetLink, NoFields, QField, NoRanges, QRange, NoWhere, Where}
-use Rattle.oql_syntax.specs.declared.query.Sign.TheVariants as sign
+use Rattle.oql_tree.specs.QueryTrees.{LitInt, LitStr, QueryTree, QName, QLiteral, QSetOf, QPath, QStruct, QFlatten, QSomeMember, QNot, QIntersect, QAnd, QOr, QUnionExcept, QCompare, QExists, QForAll, QSelect, NoLinks, Link, NoSets, SetLink, NoFields, QField, NoRanges, QRange, NoWhere, Where}
+use Rattle.oql_tree.specs.declared.query.Sign.TheVariants as sign
 use Rattle.oql_laws.specs.Unplaced.{unplaced}
 
 a_select : unplaced (QSelect 4 (QPath 24 (QName 20 (codes "x")) ((codes "a", 24) ∷ (codes "b", 26) ∷ [])) (QRange (codes "x") 31 (QName 36 (codes "A")) (QRange (codes "y") 45 (QFlatten 40 (QName 48 (codes "B"))) NoRanges)) (Where 47 (QCompare 55 sign.Le (QName 53 (codes "x")) (QLiteral 57 (LitInt (pos 3))))))

@@ -1,7 +1,7 @@
 -- Queries up to places: two are the same where they are so with 0 at each place.
 use Rattle.std.specs.Prelude.{◌≡◌, ℕ, List, map}
 use Rattle.oql_syntax.specs.QueryAnswers.{SpellsQuery}
-use Rattle.oql_syntax.specs.QueryTrees.{LitTree, QueryTree, QName, QLiteral, QSetOf, QPath, QStruct, QFlatten, QSomeMember, QNot, QIntersect, QAnd, QOr, QUnionExcept, QCompare, QExists, QForAll, QSelect, QueryLinks, NoLinks, Link, SetLinks, NoSets, SetLink, QueryFields, NoFields, QField, QueryRanges, NoRanges, QRange, QueryWhere, NoWhere, Where}
+use Rattle.oql_tree.specs.QueryTrees.{LitTree, QueryTree, QName, QLiteral, QSetOf, QPath, QStruct, QFlatten, QSomeMember, QNot, QIntersect, QAnd, QOr, QUnionExcept, QCompare, QExists, QForAll, QSelect, QueryLinks, NoLinks, Link, SetLinks, NoSets, SetLink, QueryFields, NoFields, QField, QueryRanges, NoRanges, QRange, QueryWhere, NoWhere, Where}
 
 abbrev pub unplaced_literal : LitTree × ℕ → LitTree × ℕ
 unplaced_literal l = (l.0, 0)

@@ -2,10 +2,10 @@
 use Rattle.std.proofs.Common.{◌≡◌, Bool, true, false, Some, refl, ap, ◌∙◌}
 use Rattle.std.specs.Prelude.{is_some, ◌||◌}
 use Rattle.kola_base.specs.declared.sign.Sign.TheVariants as s
-use Rattle.oql_syntax.specs.declared.query.Sign.{Sign}
+use Rattle.oql_tree.specs.declared.query.Sign.{Sign}
 use Rattle.oql_syntax.specs.declared.word.QueryWord.TheVariants as q
 use Rattle.oql_syntax.specs.Alphabet.{Kind, KSign, KWord}
-use Rattle.oql_syntax.specs.QueryTrees.{QueryWhere, NoWhere, Where}
+use Rattle.oql_tree.specs.QueryTrees.{QueryWhere, NoWhere, Where}
 use Rattle.oql_syntax.specs.QueryReaders.{comparison_of, Next, ARange, ALabel}
 use Rattle.oql_syntax.specs.Tails.{Tail, Plain, Compared, OpenPlain, OpenCompared, Ranged, Labelled, opened}
 

@@ -10,7 +10,7 @@ use Rattle.kola_parse.specs.Texts.{◌·◌, ends, Nothing, Made}
 use Rattle.kola_parse.proofs.ReaderLaws.{nil_of}
 use Rattle.oql_syntax.specs.Alphabet.{Kind, KSign, KWord, KName, KNumber, KString, kind}
 use Rattle.oql_syntax.specs.Grammar.{Text, ◌▸◌, at, LabelText, LiteralText, ComparisonAt, PartedByCommas, Deeper, FieldText, ItselfText, PrimText, PathText, MeetText, union_word, SetsText, ComparedText, CmpText, RangeText}
-use Rattle.oql_syntax.specs.QueryTrees.{LitTree, LitInt, LitStr, LitBool, QueryTree, QName, QLiteral, QSetOf, QStruct, QFlatten, QSomeMember, QCompare, QueryFields, NoFields, QField, QueryRanges, NoRanges, QRange, fields, of_fields, ranges, of_ranges}
+use Rattle.oql_tree.specs.QueryTrees.{LitTree, LitInt, LitStr, LitBool, QueryTree, QName, QLiteral, QSetOf, QStruct, QFlatten, QSomeMember, QCompare, QueryFields, NoFields, QField, QueryRanges, NoRanges, QRange, fields, of_fields, ranges, of_ranges}
 use Rattle.oql_syntax.specs.QueryReaders.{named, literal_of, Tailed, RangeParts, FieldParts, path_of, intersect_of, union_of, set_operand, compared}
 use Rattle.oql_syntax.specs.Tails.{Tail, Plain, Compared}
 use Rattle.oql_syntax.specs.declared.word.QueryWord.TheVariants as q

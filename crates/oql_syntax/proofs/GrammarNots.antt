@@ -6,7 +6,7 @@ use Rattle.kola_base.specs.declared.sign.Sign.TheVariants as s
 use Rattle.kola_parse.specs.Texts.{◌·◌, Made, Led}
 use Rattle.oql_syntax.specs.Alphabet.{Kind, KSign, KWord, KName, kind}
 use Rattle.oql_syntax.specs.Grammar.{Text, ◌▸◌, at, VariableText, NameAtText, Deeper, PrefixedText, NotText, AndText, OrText}
-use Rattle.oql_syntax.specs.QueryTrees.{QueryTree, QNot, QAnd, QOr, QExists, QForAll}
+use Rattle.oql_tree.specs.QueryTrees.{QueryTree, QNot, QAnd, QOr, QExists, QForAll}
 use Rattle.oql_syntax.specs.QueryReaders.{named, Tailed, with_body, not_tree}
 use Rattle.oql_syntax.specs.Tails.{Tail, Plain, Compared, OpenPlain, OpenCompared, Ranged, Labelled, opened}
 use Rattle.oql_syntax.specs.declared.word.QueryWord.TheVariants as q

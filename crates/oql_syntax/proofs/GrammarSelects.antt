@@ -9,7 +9,7 @@ use Rattle.kola_parse.specs.Texts.{◌·◌, ends, Made, Led}
 use Rattle.kola_parse.proofs.ReaderLaws.{nil_of}
 use Rattle.oql_syntax.specs.Alphabet.{Kind, KSign, KWord, KName, kind}
 use Rattle.oql_syntax.specs.Grammar.{Text, ◌▸◌, at, NameAtText, PartedByCommas, Deeper, RangeText, WhereText, SelectText, FullText}
-use Rattle.oql_syntax.specs.QueryTrees.{QueryTree, QSelect, QueryRanges, QueryWhere, NoWhere, Where, ranges, of_ranges}
+use Rattle.oql_tree.specs.QueryTrees.{QueryTree, QSelect, QueryRanges, QueryWhere, NoWhere, Where, ranges, of_ranges}
 use Rattle.oql_syntax.specs.QueryReaders.{named, Tailed, RangeParts, RangesTailed, RangeRead, with_as, Next, ARange, more_ranges}
 use Rattle.oql_syntax.specs.Tails.{Tail, Ranged, opened}
 use Rattle.oql_syntax.specs.declared.word.QueryWord.TheVariants as q

@@ -12,7 +12,7 @@ use Rattle.kola_parse.proofs.GoodReaders.{good_as}
 use Rattle.kola_parse.proofs.ReaderLaws.{nil_of}
 use Rattle.oql_syntax.specs.Alphabet.{Kind, KSign, kind}
 use Rattle.oql_syntax.specs.Grammar.{Text, ◌▸◌, PartedByCommas, Deeper, nowhere, FieldText, FullText, deeper_texts, QueryText}
-use Rattle.oql_syntax.specs.QueryTrees.{QueryTree}
+use Rattle.oql_tree.specs.QueryTrees.{QueryTree}
 use Rattle.oql_syntax.specs.QueryReaders.{named, FieldParts, FieldState, FieldRound, next_field, add_field, first_field, Closing, query}
 use Rattle.oql_syntax.specs.Tails.{Tail, Plain, Compared, OpenPlain, OpenCompared, Ranged, Labelled}
 use Rattle.oql_syntax.proofs.QuerySymbols.{Ahead}

@@ -15,10 +15,10 @@ use Rattle.kola_parse.proofs.GoodReaders.{done_good, next_good, eat_good, good_a
 use Rattle.kola_parse.proofs.Chains.{chained_good}
 use Rattle.kola_parse.proofs.ListedLaws.{IsList, ItemOr, IsTaken, listed_good}
 use Rattle.oql_syntax.specs.Alphabet.{Kind, KSign, KWord, KName, KNumber, KString, kind}
-use Rattle.oql_syntax.specs.QueryTrees.{LitTree, LitInt, LitStr, LitBool, QueryTree, QName, QLiteral, QSetOf, QFlatten, QSomeMember, QAnd, QOr, QExists, QForAll, QueryWhere, NoWhere, Where}
+use Rattle.oql_tree.specs.QueryTrees.{LitTree, LitInt, LitStr, LitBool, QueryTree, QName, QLiteral, QSetOf, QFlatten, QSomeMember, QAnd, QOr, QExists, QForAll, QueryWhere, NoWhere, Where}
 use Rattle.oql_syntax.specs.QueryReaders.{Reader, Tailed, RangesTailed, FieldParts, Level, closed, next_literal_move, next_literal, first_and, literals, set_in, struct_tree, struct_in, flatten_in, some_in, prim_move, prim, PathParts, no_labels, add_label, path_of, label_move, path_by, Operands, no_operands, add_operand, intersect_of, at_place, intersect_move, meet_by, meet_from, SetOperands, no_set_operands, add_set_operand, union_of, set_operand, union_move, sets_by, sets_from, sets, comparison_of, plain, compared, compared_with, comparison_by, comparison_move, cmp_from, with_body, quantified, exists_move, not_tree, opennot_move, opennot, OperandsTailed, first_operand, more_operands, joined, placed_operand, and_move, and_from, or_move, or_from, openor_from, SelectParts, no_where, with_where, selected, where_move, select_rest, select, full_move, full}
 use Rattle.oql_syntax.specs.Tails.{Tail, Plain, Compared, OpenPlain, OpenCompared, Ranged, Labelled}
-use Rattle.oql_syntax.specs.declared.query.Sign.{Sign}
+use Rattle.oql_tree.specs.declared.query.Sign.{Sign}
 use Rattle.oql_syntax.specs.declared.word.QueryWord.TheVariants as q
 use Rattle.oql_syntax.proofs.QuerySymbols.{sign_token, sign_is, Ahead, ahead_sign, ahead_word, after_sign, after_word, no_text, nothing, name_token, name_token_is, Variable, variable_good, Literal, literal_good, weaker, led_good}
 use Rattle.oql_syntax.proofs.GoesOn.{on_path, on_meet, on_sets, on_full, on_and, on_not, on_side, on_ranges, on_part, ranges_by, opened_same, opened_not, comparison_clear, close_full, from_full}

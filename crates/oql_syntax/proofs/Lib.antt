@@ -1,4 +1,3 @@
-pub mod QueryLoops
 pub mod WordLengths
 pub mod LinkLoops
 pub mod ReadingSteps
@@ -26,5 +25,3 @@ pub mod RoleLaws
 pub mod WholeQueries
 pub mod NamedSelects
 pub mod QueryAnswerExamples
-pub mod SpellingExamples
-pub mod SpellingLoops

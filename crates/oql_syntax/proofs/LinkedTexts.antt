@@ -6,7 +6,7 @@ use Rattle.kola_parse.specs.Kinds.{Lang}
 use Rattle.kola_parse.specs.Listed.{Listed}
 use Rattle.kola_parse.specs.Texts.{ends, Chained, Made, ChainText}
 use Rattle.oql_syntax.specs.Alphabet.{Kind, KWord, kind}
-use Rattle.oql_syntax.specs.QueryTrees.{QueryTree, QueryLinks}
+use Rattle.oql_tree.specs.QueryTrees.{QueryTree, QueryLinks}
 use Rattle.oql_syntax.specs.QueryReaders.{Tailed, OperandsTailed, first_operand, more_operands, chain_tree, joined}
 use Rattle.oql_syntax.specs.Tails.{Tail, Plain, Compared}
 use Rattle.oql_syntax.specs.Grammar.{Text, LinkedText, OperandsText, OpenLinkedText, at}

@@ -8,10 +8,10 @@ use Rattle.kola_parse.specs.Kinds.{Lang, leads}
 use Rattle.kola_parse.specs.Texts.{◌·◌, ends, Nothing, Chained, Made, ChainText}
 use Rattle.kola_parse.proofs.ReaderLaws.{nil_of}
 use Rattle.oql_syntax.specs.Alphabet.{Kind, KSign, KWord, KName, kind}
-use Rattle.oql_syntax.specs.QueryTrees.{QueryTree, QNot, QAnd, QOr, QCompare, QExists, QForAll, QSelect, QueryWhere, NoWhere, Where, of_ranges}
+use Rattle.oql_tree.specs.QueryTrees.{QueryTree, QNot, QAnd, QOr, QCompare, QExists, QForAll, QSelect, QueryWhere, NoWhere, Where, of_ranges}
 use Rattle.oql_syntax.specs.QueryReaders.{Tailed, RangeParts, RangesTailed, comparison_of, compared, placed_operand, SelectParts, no_where, with_where, selected, Next, ARange, ALabel, more_ranges}
 use Rattle.oql_syntax.specs.Tails.{Tail, Plain, Compared, Ranged, Labelled, opened}
-use Rattle.oql_syntax.specs.declared.query.Sign as comparison
+use Rattle.oql_tree.specs.declared.query.Sign as comparison
 use Rattle.oql_syntax.specs.declared.word.QueryWord.TheVariants as q
 use Rattle.oql_syntax.proofs.QuerySymbols.{Variable}
 use Rattle.oql_syntax.proofs.LevelLaws.{Texts, Inner, Nowhere, Level_of, Deeper, Sets, ComparisonBy, ComparisonLinks, CmpFrom, SomeIn, PrimRest, Quantified, ExistsRest, NotRest, OpenNot, AndLinks, OrLinks, AndFrom, OpenAnd, OpenOrFrom, WhereLinks, SelectRest, FullRest, Full}

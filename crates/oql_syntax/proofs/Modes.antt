@@ -9,7 +9,7 @@ use Rattle.kola_parse.specs.Texts.{◌·◌, ends, Chained, Made, Led, ChainText
 use Rattle.kola_parse.proofs.ReaderLaws.{nil_of}
 use Rattle.oql_syntax.specs.Alphabet.{Kind, KSign, kind}
 use Rattle.oql_syntax.specs.Grammar.{Text, ◌▸◌}
-use Rattle.oql_syntax.specs.QueryTrees.{QueryTree, QueryLinks}
+use Rattle.oql_tree.specs.QueryTrees.{QueryTree, QueryLinks}
 use Rattle.oql_syntax.specs.QueryReaders.{Tailed, OperandsTailed, first_operand, more_operands, joined}
 use Rattle.oql_syntax.specs.Tails.{Tail, Plain, Compared, OpenPlain, OpenCompared, Ranged, Labelled, opened}
 use Rattle.oql_syntax.specs.declared.word.QueryWord.{QueryWord}

@@ -11,7 +11,7 @@ use Rattle.kola_parse.specs.Kinds.{Lang}
 use Rattle.kola_parse.specs.Texts.{◌·◌, ends, Nothing, Made, Led}
 use Rattle.oql_syntax.specs.Alphabet.{Kind, KSign, KWord, KName, kind, query_word_named}
 use Rattle.oql_syntax.specs.Grammar.{◌▸◌}
-use Rattle.oql_syntax.specs.QueryTrees.{LitBool, QueryTree, QName, QLiteral}
+use Rattle.oql_tree.specs.QueryTrees.{LitBool, QueryTree, QName, QLiteral}
 use Rattle.oql_syntax.specs.QueryReaders.{named, RangeRead, with_in, Next, ARange, ALabel}
 use Rattle.oql_syntax.specs.declared.word.QueryWord.{QueryWord}
 use Rattle.oql_syntax.specs.declared.word.QueryWord.TheVariants as q

@@ -8,7 +8,7 @@ use Rattle.kola_base.specs.declared.sign.Sign.TheVariants as s
 use Rattle.kola_parse.specs.declared.why.Why.TheVariants.{Unexpected}
 use Rattle.kola_parse.specs.Reader.{eat_at, other_at, done, fault, ◌>>=◌}
 use Rattle.oql_syntax.specs.Alphabet.{Kind, KSign, KWord, KName, kind, query_word_named}
-use Rattle.oql_syntax.specs.QueryTrees.{QName, QLiteral, LitBool}
+use Rattle.oql_tree.specs.QueryTrees.{QName, QLiteral, LitBool}
 use Rattle.oql_syntax.specs.QueryForms.{behind_sign, behind_colon, word_form, set_paren, parts_paren, parts_of, word_range}
 use Rattle.oql_syntax.specs.QueryReaders.{Reader, Level, Next, ARange, ALabel, in_move, as_from, range_from, only_label, name_next, set_next, open_next, word_next}
 use Rattle.oql_syntax.specs.declared.operand.Parts.{Parts}

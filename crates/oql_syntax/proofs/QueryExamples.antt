@@ -13,11 +13,11 @@ use Rattle.kola_parse.specs.declared.why.Why.TheVariants.{Unexpected, TooDeep}
 use Rattle.kola_parse.specs.Reader.{Fault, fault, whole}
 use Rattle.kola_parse.proofs.GoodReaders.{whole_sound, whole_complete}
 use Rattle.oql_syntax.specs.Alphabet.{query_words, query_word_named}
-use Rattle.oql_syntax.specs.QueryTrees.{LitInt, LitBool, QueryTree, QName, QLiteral, QSetOf, QPath, QStruct, QFlatten, QSomeMember, QNot, QIntersect, QAnd, QOr, QUnionExcept, QCompare, QExists, QForAll, QSelect, NoLinks, Link, NoSets, SetLink, NoFields, QField, NoRanges, QRange, NoWhere, Where}
+use Rattle.oql_tree.specs.QueryTrees.{LitInt, LitBool, QueryTree, QName, QLiteral, QSetOf, QPath, QStruct, QFlatten, QSomeMember, QNot, QIntersect, QAnd, QOr, QUnionExcept, QCompare, QExists, QForAll, QSelect, NoLinks, Link, NoSets, SetLink, NoFields, QField, NoRanges, QRange, NoWhere, Where}
 use Rattle.oql_syntax.specs.QueryReaders.{query}
 use Rattle.oql_syntax.specs.Grammar.{QueryText}
 use Rattle.oql_syntax.specs.QueryFaults.{CUnexpected, CTooDeep, CNotInProfile, word_outside, cause_by}
-use Rattle.oql_syntax.specs.declared.query.Sign.TheVariants as c
+use Rattle.oql_tree.specs.declared.query.Sign.TheVariants as c
 use Rattle.oql_syntax.proofs.WholeQueryLaws.{always}
 use Rattle.oql_syntax.proofs.GrammarWhole.{grammar_good}
 

@@ -21,7 +21,7 @@ use Rattle.oql_syntax.specs.declared.word.QueryWord.{QueryWord}
 use Rattle.oql_syntax.specs.declared.word.QueryWord.TheVariants as q
 use Rattle.oql_syntax.specs.Alphabet.{Kind, KSign, KWord, KName, kind, query_word_spelling, query_words, query_word_named, or_left_out, says_word}
 use Rattle.oql_syntax.specs.QueryReaders.{Reader, is_word, named, variable_move, variable, literal_of, literal_move, literal, led}
-use Rattle.oql_syntax.specs.QueryTrees.{LitTree, LitBool}
+use Rattle.oql_tree.specs.QueryTrees.{LitTree, LitBool}
 
 -- ---- signs
 

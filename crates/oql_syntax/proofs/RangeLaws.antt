@@ -15,7 +15,7 @@ use Rattle.kola_parse.proofs.ManyChains.{manied_good}
 use Rattle.kola_parse.proofs.Options.{other_apart_good}
 use Rattle.kola_parse.proofs.Loops.{chain_stays, chain_nil}
 use Rattle.oql_syntax.specs.Alphabet.{Kind, KSign, KWord, KName, kind, query_word_spelling}
-use Rattle.oql_syntax.specs.QueryTrees.{LitBool, QueryTree, QName, QLiteral}
+use Rattle.oql_tree.specs.QueryTrees.{LitBool, QueryTree, QName, QLiteral}
 use Rattle.oql_syntax.specs.QueryReaders.{Reader, is_word, named, variable, RangesTailed, Level, PathParts, no_labels, add_label, path_of, label_move, path_by, Operands, no_operands, add_operand, intersect_of, intersect_move, SetOperands, no_set_operands, add_set_operand, union_of, union_move, struct_in, flatten_in, some_in, prim_move, prim, meet_from, sets_from, RangeRead, with_as, with_in, as_from, in_move, range_move, range, Next, ARange, ALabel, range_from, only_label, name_next, set_next, open_next, whole_next, word_next, next_move, next, first_range, more_ranges, comma_move, ranges}
 use Rattle.oql_syntax.specs.Tails.{Tail, Plain, Compared, OpenPlain, OpenCompared, Ranged, Labelled}
 use Rattle.oql_syntax.specs.declared.word.QueryWord.TheVariants as q

@@ -14,8 +14,8 @@ use Rattle.oql_syntax.specs.Alphabet.{Kind, KWord, KName, kind}
 use Rattle.oql_syntax.specs.QueryForms.{lead, is_select, kind_name, behind_word, behind_in}
 use Rattle.oql_syntax.specs.declared.link.Lead.TheVariants as leads
 use Rattle.oql_syntax.specs.Tails.{Tail, Plain, Compared, opened}
-use Rattle.oql_syntax.specs.QueryTrees.{QueryTree, QCompare, NoWhere, Where}
-use Rattle.oql_syntax.specs.declared.query.Sign.{Sign}
+use Rattle.oql_tree.specs.QueryTrees.{QueryTree, QCompare, NoWhere, Where}
+use Rattle.oql_tree.specs.declared.query.Sign.{Sign}
 use Rattle.oql_syntax.specs.declared.word.QueryWord.TheVariants as q
 use Rattle.oql_syntax.specs.QueryReaders.{Reader, Level, Tailed, sets, sets_from, cmp_from, plain, is_word, comparison_move, comparison_by, comparison_of, compared, quantified, with_body, led, RangeParts, RangesTailed, SelectParts, no_where, with_where, where_move, select_rest, selected, RangeRead, in_move, range_move, prim_move, opennot_move, full_move, or_from, openor_from, as_from, range_from}
 

@@ -12,8 +12,8 @@ use Rattle.oql_syntax.specs.Grammar.{Text, ◌▸◌, at, VariableText, NameAtTe
 use Rattle.oql_syntax.specs.Limits.{QueryWithin}
 use Rattle.oql_syntax.specs.QueryFaults.{is_label_behind, is_select, ends_in_select, last_is_select, DistinctMayFollow}
 use Rattle.oql_syntax.specs.QueryParts.{literal_of, comparison_of}
-use Rattle.oql_syntax.specs.QueryTrees.{LitTree, QueryTree, QName, QLiteral, QSetOf, QStruct, QFlatten, QSomeMember, QNot, QAnd, QOr, QCompare, QExists, QForAll, QSelect, QueryWhere, NoWhere, Where, fields, ranges}
-use Rattle.oql_syntax.specs.declared.query.Sign.{Sign}
+use Rattle.oql_tree.specs.QueryTrees.{LitTree, QueryTree, QName, QLiteral, QSetOf, QStruct, QFlatten, QSomeMember, QNot, QAnd, QOr, QCompare, QExists, QForAll, QSelect, QueryWhere, NoWhere, Where, fields, ranges}
+use Rattle.oql_tree.specs.declared.query.Sign.{Sign}
 use Rattle.oql_syntax.specs.declared.word.QueryWord.{QueryWord}
 use Rattle.oql_syntax.specs.declared.word.QueryWord.TheVariants as q
 

@@ -5,7 +5,7 @@ use Rattle.kola_base.specs.declared.sign.Sign.TheVariants as s
 use Rattle.kola_parse.specs.Kinds.{Lang, leads}
 use Rattle.kola_parse.specs.Texts.{Chained, Made, Led, ChainText}
 use Rattle.oql_syntax.specs.Alphabet.{Kind, KSign, KWord, KName, kind}
-use Rattle.oql_syntax.specs.QueryTrees.{QueryTree, QueryLinks, QNot, QAnd, QOr, QExists, QForAll}
+use Rattle.oql_tree.specs.QueryTrees.{QueryTree, QueryLinks, QNot, QAnd, QOr, QExists, QForAll}
 use Rattle.oql_syntax.specs.QueryReaders.{Tailed, RangesTailed, Next, more_ranges, OperandsTailed, first_operand, more_operands, joined}
 use Rattle.oql_syntax.specs.Tails.{Tail, Plain, Compared, OpenPlain, OpenCompared, Ranged, Labelled, opened}
 use Rattle.oql_syntax.specs.declared.word.QueryWord.{QueryWord}

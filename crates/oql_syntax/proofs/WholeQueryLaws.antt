@@ -15,7 +15,7 @@ use Rattle.kola_parse.proofs.GoodReaders.{done_good, next_good, then_good, eat_g
 use Rattle.kola_parse.proofs.Options.{may_good, stop_good}
 use Rattle.kola_parse.proofs.Rounds.{rounds_good}
 use Rattle.oql_syntax.specs.Alphabet.{Kind, KSign, kind}
-use Rattle.oql_syntax.specs.QueryTrees.{QueryTree}
+use Rattle.oql_tree.specs.QueryTrees.{QueryTree}
 use Rattle.oql_syntax.specs.QueryReaders.{Reader, Tailed, FieldParts, Level, FieldState, FieldRound, next_field, field_move, last_move, field_end, add_field, field, first_field, fields, level, below, Closing, semicolon_move, ending, full, query, no_labels, no_operands, no_set_operands, first_operand}
 use Rattle.oql_syntax.specs.Tails.{Tail, Plain, Compared, OpenPlain, OpenCompared, Ranged, Labelled}
 use Rattle.oql_syntax.proofs.QuerySymbols.{sign_token, sign_is, Ahead, ahead_sign, no_text, nothing, name_token}

@@ -7,9 +7,9 @@ use Rattle.kola_parse.specs.Kinds.{leads}
 use Rattle.kola_parse.specs.Listed.{Listed}
 use Rattle.kola_parse.specs.Texts.{◌·◌, ends, none}
 use Rattle.oql_syntax.specs.Alphabet.{Kind, KSign, KWord, KName, kind}
-use Rattle.oql_syntax.specs.QueryTrees.{LitTree, QueryTree, QName, QLiteral, QSetOf, QStruct, QFlatten, QSomeMember, QNot, QIntersect, QAnd, QOr, QCompare, QExists, QForAll, QSelect, QueryLinks, QueryWhere, NoWhere, Where, fields, ranges}
+use Rattle.oql_tree.specs.QueryTrees.{LitTree, QueryTree, QName, QLiteral, QSetOf, QStruct, QFlatten, QSomeMember, QNot, QIntersect, QAnd, QOr, QCompare, QExists, QForAll, QSelect, QueryLinks, QueryWhere, NoWhere, Where, fields, ranges}
 use Rattle.oql_syntax.specs.QueryParts.{named, literal_of, path_tree, chain_tree, union_tree, comparison_of}
-use Rattle.oql_syntax.specs.declared.query.Sign.{Sign}
+use Rattle.oql_tree.specs.declared.query.Sign.{Sign}
 use Rattle.oql_syntax.specs.declared.word.QueryWord.{QueryWord}
 use Rattle.oql_syntax.specs.declared.word.QueryWord.TheVariants as q
 

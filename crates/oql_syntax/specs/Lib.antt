@@ -1,6 +1,3 @@
-pub mod QueryTrees
-pub mod QueryViews
-pub mod Models
 pub mod Alphabet
 pub mod WordLists
 pub mod Tails
@@ -14,4 +11,3 @@ pub mod Grammar
 pub mod Limits
 pub mod Roles
 pub mod QueryAnswers
-pub mod QuerySpelling

@@ -3,7 +3,7 @@ use Rattle.std.specs.Prelude.{ℕ, List}
 use Rattle.kola_base.specs.Placed.{Placed}
 use Rattle.oql_syntax.specs.Grammar.{QueryText}
 use Rattle.oql_syntax.specs.QueryReaders.{Reader, query}
-use Rattle.oql_syntax.specs.QueryTrees.{QueryTree}
+use Rattle.oql_tree.specs.QueryTrees.{QueryTree}
 
 -- at most so many links in a chain, and so many levels below the whole query
 abbrev pub greatest_query : ℕ

@@ -7,7 +7,7 @@ use Rattle.kola_base.specs.Spelled.{Spells}
 use Rattle.oql_syntax.specs.Grammar.{QueryText}
 use Rattle.oql_syntax.specs.Limits.{greatest_query}
 use Rattle.oql_syntax.specs.QueryFaults.{QueryCause, CLex, CUnexpected, CTooDeep, CNotInProfile, FaultOfQuery, Refusal, RMemory, RAt, IsRefusal}
-use Rattle.oql_syntax.specs.QueryTrees.{QueryTree}
+use Rattle.oql_tree.specs.QueryTrees.{QueryTree}
 use Rattle.oql_syntax.specs.declared.read.QueryWhy.{QueryWhy}
 use Rattle.oql_syntax.specs.declared.read.QueryWhy.TheVariants as whys
 use Rattle.oql_syntax.specs.declared.read.QueryFault.{QueryFault}

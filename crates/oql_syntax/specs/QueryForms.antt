@@ -9,7 +9,7 @@ use Rattle.kola_base.specs.Placed.{Placed}
 use Rattle.kola_base.specs.declared.sign.Sign.TheVariants as s
 use Rattle.kola_parse.specs.Kinds.{deeper}
 use Rattle.kola_parse.specs.Reader.{Move, Stray, Goes, done, eat, made, other}
-use Rattle.oql_syntax.specs.QueryTrees.{QueryTree, LitBool, QName, QLiteral}
+use Rattle.oql_tree.specs.QueryTrees.{QueryTree, LitBool, QName, QLiteral}
 use Rattle.oql_syntax.specs.QueryReaders.{Reader, Level, level, below, closed, set_in, struct_in, flatten_in, some_in, in_move, as_from, range_from, Next, ARange}
 use Rattle.oql_syntax.specs.Alphabet.{Kind, KSign, KWord, KName, kind}
 use Rattle.oql_syntax.specs.declared.word.QueryWord.TheVariants as q

@@ -3,9 +3,9 @@ use Rattle.std.specs.Prelude.{ℕ, List, [], ◌∷◌, Bool, true, false, Optio
 use Rattle.kola_base.specs.Named.{Named}
 use Rattle.kola_base.specs.declared.sign.Sign.TheVariants as s
 use Rattle.oql_syntax.specs.Alphabet.{Kind, KSign, KWord, KNumber, KString}
-use Rattle.oql_syntax.specs.QueryTrees.{LitTree, LitInt, LitStr, LitBool, QueryTree, QPath, QUnionExcept, QueryLinks, of_links, of_set_links}
-use Rattle.oql_syntax.specs.declared.query.Sign.{Sign}
-use Rattle.oql_syntax.specs.declared.query.Sign.TheVariants as c
+use Rattle.oql_tree.specs.QueryTrees.{LitTree, LitInt, LitStr, LitBool, QueryTree, QPath, QUnionExcept, QueryLinks, of_links, of_set_links}
+use Rattle.oql_tree.specs.declared.query.Sign.{Sign}
+use Rattle.oql_tree.specs.declared.query.Sign.TheVariants as c
 use Rattle.oql_syntax.specs.declared.word.QueryWord.TheVariants as q
 
 abbrev pub named : List ℕ → ℕ → Named

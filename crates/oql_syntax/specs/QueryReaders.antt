@@ -11,8 +11,8 @@ use Rattle.kola_parse.specs.Reader.{Answer, then, Move, Stray, Deep, Goes, eat, 
 use Rattle.oql_syntax.specs.Alphabet.{Kind, KSign, KWord, KName, KNumber, KString, kind, word, query_word_spelling}
 pub use Rattle.oql_syntax.specs.QueryParts.{named, literal_of, comparison_of, path_tree, chain_tree, union_tree}
 use Rattle.oql_syntax.specs.Tails.{Tail, Plain, Compared, Ranged, Labelled, opened}
-use Rattle.oql_syntax.specs.QueryTrees.{LitTree, LitInt, LitStr, LitBool, QueryTree, QName, QLiteral, QSetOf, QStruct, QFlatten, QSomeMember, QNot, QIntersect, QAnd, QOr, QCompare, QExists, QForAll, QSelect, QueryLinks, QueryWhere, NoWhere, Where, of_fields, of_ranges}
-use Rattle.oql_syntax.specs.declared.query.Sign.{Sign}
+use Rattle.oql_tree.specs.QueryTrees.{LitTree, LitInt, LitStr, LitBool, QueryTree, QName, QLiteral, QSetOf, QStruct, QFlatten, QSomeMember, QNot, QIntersect, QAnd, QOr, QCompare, QExists, QForAll, QSelect, QueryLinks, QueryWhere, NoWhere, Where, of_fields, of_ranges}
+use Rattle.oql_tree.specs.declared.query.Sign.{Sign}
 use Rattle.oql_syntax.specs.declared.word.QueryWord.{QueryWord}
 use Rattle.oql_syntax.specs.declared.word.QueryWord.TheVariants as q
 

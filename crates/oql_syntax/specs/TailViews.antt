@@ -2,9 +2,9 @@
 use Rattle.std.specs.Prelude.{ℕ, Bool, true, false, List, [], ◌∷◌, ◌++◌, Option, Some, None}
 use Rattle.std.specs.Option.{option_map}
 use Rattle.kola_base.specs.Placed.{Placed}
-use Rattle.oql_syntax.specs.QueryTrees.{QueryTree, QueryLinks, QIntersect, QAnd, QOr, QExists, QForAll}
+use Rattle.oql_tree.specs.QueryTrees.{QueryTree, QueryLinks, QIntersect, QAnd, QOr, QExists, QForAll}
 use Rattle.oql_syntax.specs.Tails.{Tail, Plain, Compared, OpenPlain, OpenCompared, Ranged, Labelled}
-use Rattle.oql_syntax.specs.declared.query.Sign.{Sign}
+use Rattle.oql_tree.specs.declared.query.Sign.{Sign}
 use Rattle.oql_syntax.specs.declared.link.Tail as tail
 use Rattle.oql_syntax.specs.declared.link.Tail.TheVariants as tails
 use Rattle.oql_syntax.specs.declared.link.Quantifier as quantifier

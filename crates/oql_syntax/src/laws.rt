@@ -6,7 +6,7 @@ ghost use Rattle.kola_parse.specs.declared.why.Why.TheVariants.{Unexpected};
 ghost use Rattle.oql_syntax.specs.Limits.{QueryWithin, greatest_query};
 ghost use Rattle.oql_syntax.specs.QueryAnswers.{SpellsQuery, IsQueryFault};
 ghost use Rattle.oql_syntax.specs.QueryFaults.{QueryCause, CNotInProfile, QuerySyntaxAt, last_is_select, DistinctMayFollow};
-ghost use Rattle.oql_syntax.specs.QueryTrees.{QueryTree};
+ghost use Rattle.oql_tree.specs.QueryTrees.{QueryTree};
 
 /// Each text writes a query or has a first fault, one query or one place and cause, and never both.
 pub fn a_text_is_one_query_or_has_one_fault(text: &[u8])

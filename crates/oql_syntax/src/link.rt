@@ -7,7 +7,7 @@ ghost use Rattle.kola_parse.specs.Reader.{eat};
 ghost use Rattle.oql_syntax.specs.Alphabet.{kind};
 ghost use Rattle.std.specs.Option.{option_map};
 ghost use Rattle.kola_base.specs.AlphabetViews.{symbol_view};
-ghost use Rattle.oql_syntax.specs.QueryTrees.{QName, QExists, QForAll};
+ghost use Rattle.oql_tree.specs.QueryTrees.{QName, QExists, QForAll};
 ghost use Rattle.oql_syntax.specs.Tails.{opened};
 ghost use Rattle.oql_syntax.specs.QueryReaders.{chain_tree, union_tree, comparison_of};
 ghost use Rattle.oql_syntax.specs.QueryForms.{lead, is_select, kind_name, now, behind_in, behind_colon, word_form};
@@ -15,11 +15,11 @@ ghost use Rattle.oql_syntax.specs.TailViews.{tail_view, next_view, round_view, r
 
 use crate::look::{Cursor, first_of};
 use crate::operand::boxed;
-use crate::query::{BoxedExpr, Chain, Form, Ranges, SetChain, Sign};
 use crate::word::QueryWord;
 use kola_base::{Lexemes, Named, Sign as Mark, Symbol, expect_sign, name_of};
 use kola_core::{Memory, Name};
 use kola_parse::{Stop, stray};
+use oql_tree::{BoxedExpr, Chain, Form, Ranges, SetChain, Sign};
 use std::alloc::Global;
 
 /// How the text of an expression ended: what may go on it depends on this alone.

@@ -11,17 +11,17 @@ ghost use Rattle.kola_base.specs.NamedViews.{named_view};
 ghost use Rattle.kola_base.specs.AlphabetViews.{symbol_view};
 ghost use Rattle.kola_base.specs.declared.sign.Sign.TheVariants as signs;
 ghost use Rattle.oql_syntax.specs.Alphabet.{kind};
-ghost use Rattle.oql_syntax.specs.QueryTrees.{QueryTree};
-ghost use Rattle.oql_syntax.specs.QueryViews.{lit_tree, literal_entry, literal_entries, query_tree};
+ghost use Rattle.oql_tree.specs.QueryTrees.{QueryTree};
+ghost use Rattle.oql_tree.specs.QueryViews.{lit_tree, literal_entry, literal_entries, query_tree};
 ghost use Rattle.oql_syntax.specs.QueryReaders.{variable, literal_of, literal, next_literal, literals, set_in, below, prim_move, label_move, add_label, path_tree, path_by, PathParts};
 ghost use Rattle.oql_syntax.specs.QueryForms.{operand_rest, parts_of, IsOperandBelow, some_label};
 
 use crate::look::{Cursor, First, first_of};
-use crate::query::{BoxedExpr, Expr, Form, Labels, Lit, LitList};
 use crate::word::QueryWord;
 use kola_base::{Lexemes, Named, Sign, Symbol, expect_sign, name_of};
 use kola_core::{Items, Memory, Name};
 use kola_parse::{Stop, Why, inner_of, stray};
+use oql_tree::{BoxedExpr, Expr, Form, Labels, Lit, LitList};
 use std::alloc::Global;
 
 /// An expression of the form at the place, in a box.

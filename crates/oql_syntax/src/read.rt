@@ -7,16 +7,16 @@ ghost use Rattle.oql_syntax.specs.Limits.{QueryWithin};
 ghost use Rattle.oql_syntax.specs.QueryAnswers.{SpellsQuery, IsQueryFault, IsQueryRefusal, why_cause, fault_refusal, cause_name, of_lexer};
 ghost use Rattle.oql_syntax.specs.QueryFaults.{QueryCause, IsRefusal, IsRead, IsRefused, cause_by, refusal_of};
 ghost use Rattle.oql_syntax.specs.QueryForms.{now};
-ghost use Rattle.oql_syntax.specs.QueryTrees.{QueryTree};
-ghost use Rattle.oql_syntax.specs.QueryViews.{query_tree};
+ghost use Rattle.oql_tree.specs.QueryTrees.{QueryTree};
+ghost use Rattle.oql_tree.specs.QueryViews.{query_tree};
 ghost use Rattle.oql_syntax.specs.declared.read.QueryFault.TheVariants.{Memory};
 
 use crate::outside::word_outside;
-use crate::query::Query;
 use crate::reading::query_of;
 use kola_base::{LexFault, LexWhy, Lexemes, tokens};
 use kola_core::{Memory, Name};
 use kola_parse::{Stop, Why};
+use oql_tree::Query;
 use std::alloc::{AllocError, Global};
 
 /// How many links a chain may have, and how many levels may stand below a query.

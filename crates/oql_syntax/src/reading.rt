@@ -5,7 +5,7 @@ ghost use Rattle.kola_parse.specs.Reader.{eat, eat_at, chain, done, link_at, man
 ghost use Rattle.kola_parse.specs.Kinds.{ahead};
 ghost use Rattle.kola_parse.specs.Given.{Gives};
 ghost use Rattle.oql_syntax.specs.Alphabet.{kind};
-ghost use Rattle.oql_syntax.specs.QueryTrees.{QName, QForAll, NoWhere};
+ghost use Rattle.oql_tree.specs.QueryTrees.{QName, QForAll, NoWhere};
 ghost use Rattle.kola_base.specs.Named.{name_of};
 ghost use Rattle.kola_base.specs.NamedViews.{named_view};
 ghost use Rattle.oql_syntax.specs.declared.word.QueryWord.TheVariants as words;
@@ -20,11 +20,11 @@ use crate::link::{
 };
 use crate::look::{Cursor, First, expect_word, first_of};
 use crate::operand::{Operand, Parts, boxed, operand_of, path_of, set_of, variable_of};
-use crate::query::{BoxedExpr, Chain, Form, Lit, NamedExprs, Ranges, SetChain, Sign, StructList};
 use crate::word::QueryWord;
 use kola_base::{Lexemes, Named, Sign as Mark, Symbol, expect_sign, name_of};
 use kola_core::Name;
 use kola_parse::{Stop, Why, inner_of, stray};
+use oql_tree::{BoxedExpr, Chain, Form, Lit, NamedExprs, Ranges, SetChain, Sign, StructList};
 use std::alloc::Global;
 
 // ---- first operands

@@ -1,6 +1,6 @@
 use Rattle.std.proofs.Common.{◌≡◌, map, take}
 use Rattle.kola_values.specs.Views.{value_tree}
-use Rattle.oql_syntax.specs.QueryViews.{literal_entry}
+use Rattle.oql_tree.specs.QueryViews.{literal_entry}
 use Rattle.kola_translate.specs.Translation.{literal_values}
 use Rattle.kola_translate.proofs.leaf.values_of.Given as goal
 

@@ -1,7 +1,7 @@
 use Rattle.std.proofs.Common.{◌∷◌, ◌++◌, map, sym, ap, ◌∙◌}
 use Rattle.kola_values.specs.Types.{TStruct, type_fields, of_type_fields}
-use Rattle.oql_syntax.specs.QueryTrees.{of_fields}
-use Rattle.oql_syntax.specs.QueryViews.{form_tree, named_entry}
+use Rattle.oql_tree.specs.QueryTrees.{of_fields}
+use Rattle.oql_tree.specs.QueryViews.{form_tree, named_entry}
 use Rattle.kola_translate.specs.Translation.{types_of}
 use Rattle.kola_translate.specs.Building.{build}
 use Rattle.kola_translate.proofs.Built.{built_as}

@@ -1,7 +1,7 @@
 use Rattle.std.proofs.Common.{◌+◌, ◌*◌, ◌∷◌, map}
-use Rattle.oql_syntax.specs.QueryTrees.{of_links, of_set_links, of_fields, of_ranges}
-use Rattle.oql_syntax.specs.QueryViews.{query_tree, link_entry, set_link_entry, named_entry, where_of}
-use Rattle.oql_syntax.specs.Models.Weights.{weight, links_weight, set_links_weight, fields_weight, ranges_weight, where_weight}
+use Rattle.oql_tree.specs.QueryTrees.{of_links, of_set_links, of_fields, of_ranges}
+use Rattle.oql_tree.specs.QueryViews.{query_tree, link_entry, set_link_entry, named_entry, where_of}
+use Rattle.oql_tree.specs.Models.Weights.{weight, links_weight, set_links_weight, fields_weight, ranges_weight, where_weight}
 use Rattle.kola_translate.proofs.terms.+terms.Given as goal
 
 abbrev pub decreases-part_of : goal.decreases-part_of

@@ -1,5 +1,5 @@
 use Rattle.std.proofs.Common.{◌≡◌, Ok, refl, subst}
-use Rattle.oql_syntax.specs.QueryViews.{query_tree}
+use Rattle.oql_tree.specs.QueryViews.{query_tree}
 use Rattle.oql_check.specs.QueryTypes.{query_type}
 use Rattle.oql_check.specs.Checking.{IsFault}
 use Rattle.oql_check.proofs.TypedBy.{typed_by}

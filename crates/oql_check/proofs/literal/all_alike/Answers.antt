@@ -1,5 +1,5 @@
 use Rattle.std.proofs.Common.{sym, ◌∙◌}
-use Rattle.oql_syntax.specs.QueryViews.{lit_tree}
+use Rattle.oql_tree.specs.QueryViews.{lit_tree}
 use Rattle.oql_check.specs.Checking.{literal_form}
 use Rattle.oql_check.proofs.CheckLoops.{alike_turn}
 use Rattle.oql_check.proofs.literal.all_alike.Goals as goal

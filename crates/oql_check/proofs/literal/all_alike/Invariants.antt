@@ -1,5 +1,5 @@
 use Rattle.std.proofs.Common.{◌≡◌, map, drop}
-use Rattle.oql_syntax.specs.QueryViews.{lit_tree, literal_entry}
+use Rattle.oql_tree.specs.QueryViews.{lit_tree, literal_entry}
 use Rattle.oql_check.specs.QueryTypes.{alike}
 use Rattle.oql_check.specs.Checking.{literal_form}
 use Rattle.oql_check.proofs.literal.all_alike.Given as goal

@@ -1,8 +1,8 @@
 use Rattle.std.proofs.Common.{◌≡◌, ◌+◌, ◌∷◌, [], Ok, map, drop, refl, sym, ap, subst, ◌∙◌, arith}
-use Rattle.oql_syntax.specs.QueryTrees.{QRange, NoRanges, of_ranges}
-use Rattle.oql_syntax.specs.QueryViews.{query_tree, link_entry, set_link_entry, where_of}
-use Rattle.oql_syntax.proofs.QueryLoops.{link_falls, set_link_falls, named_falls}
-use Rattle.oql_syntax.proofs.SpellingLoops.{range_falls}
+use Rattle.oql_tree.specs.QueryTrees.{QRange, NoRanges, of_ranges}
+use Rattle.oql_tree.specs.QueryViews.{query_tree, link_entry, set_link_entry, where_of}
+use Rattle.oql_tree.proofs.QueryLoops.{link_falls, set_link_falls, named_falls}
+use Rattle.oql_tree.proofs.QueryLoops.{range_falls}
 use Rattle.oql_check.specs.QueryTypes.{and_then, query_type, ranges_scope}
 use Rattle.oql_check.specs.Checking.{IsFault, join_type}
 use Rattle.oql_check.proofs.CheckLoops.{fault_then, to_come, fields_start, fields_done, label_refused, field_refused, field_more, ranges_turn, ends_further, handed, handed_fields, handed_scope, operand_refused, join_refused, link_more, set_operand_refused, set_join_refused, set_link_more, ranges_there, condition_refused, head_refused, head_typed}

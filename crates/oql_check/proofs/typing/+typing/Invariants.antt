@@ -1,7 +1,7 @@
 use Rattle.std.proofs.Common.{◌≡◌, ◌+◌, ◌*◌, [], map, drop}
-use Rattle.oql_syntax.specs.QueryTrees.{of_links, of_set_links, of_fields, of_ranges}
-use Rattle.oql_syntax.specs.QueryViews.{query_tree, link_entry, set_link_entry, where_of}
-use Rattle.oql_syntax.specs.Models.Weights.{weight, links_weight, set_links_weight, fields_weight, ranges_weight, where_weight}
+use Rattle.oql_tree.specs.QueryTrees.{of_links, of_set_links, of_fields, of_ranges}
+use Rattle.oql_tree.specs.QueryViews.{query_tree, link_entry, set_link_entry, where_of}
+use Rattle.oql_tree.specs.Models.Weights.{weight, links_weight, set_links_weight, fields_weight, ranges_weight, where_weight}
 use Rattle.oql_check.specs.QueryTypes.{links_type, set_links_type, ranges_scope}
 use Rattle.oql_check.specs.Checking.{EndsIn, join_type}
 use Rattle.oql_check.proofs.CheckLoops.{to_come}

@@ -1,5 +1,5 @@
 use Rattle.std.proofs.Common.{◌∙◌}
-use Rattle.oql_syntax.specs.QueryViews.{literal_entry}
+use Rattle.oql_tree.specs.QueryViews.{literal_entry}
 use Rattle.kola_parse.proofs.ListedLaws.{listed_more}
 use Rattle.oql_syntax.proofs.LevelLaws.{literal_list}
 use Rattle.oql_syntax.proofs.operand.more_literals.Goals as goal

@@ -1,7 +1,7 @@
 use Rattle.std.proofs.Common.{◌≡◌, length, []}
 use Rattle.kola_parse.specs.Listed.{listed}
 use Rattle.oql_syntax.specs.QueryReaders.{next_literal}
-use Rattle.oql_syntax.specs.QueryViews.{literal_entries}
+use Rattle.oql_tree.specs.QueryViews.{literal_entries}
 use Rattle.oql_syntax.proofs.operand.more_literals.Given as goal
 
 abbrev pub invariant-loop-literals : goal.invariant-loop-literals

@@ -1,6 +1,6 @@
 use Rattle.oql_syntax.specs.Limits.{QueryWithin, query_within, greatest_query}
 use Rattle.oql_syntax.specs.QueryAnswers.{fault_refusal}
-use Rattle.oql_syntax.specs.QueryViews.{query_tree}
+use Rattle.oql_tree.specs.QueryViews.{query_tree}
 use Rattle.oql_syntax.proofs.QueryFaultLaws.{answer_only, answer_at}
 use Rattle.oql_syntax.proofs.WholeQueries.{within_good}
 use Rattle.oql_syntax.proofs.WholeQueryLaws.{always}

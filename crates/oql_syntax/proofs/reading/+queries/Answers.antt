@@ -11,7 +11,7 @@ use Rattle.oql_syntax.proofs.ReadingSteps.{ahead_goes, as_runs, cmp_ends, cmp_ru
 use Rattle.oql_syntax.specs.Alphabet.{KSign, KWord, Kind, kind}
 use Rattle.oql_syntax.specs.QueryForms.{behind_colon, is_select, kind_name, lead, now, parts_of, parts_paren, word_form, word_range}
 use Rattle.oql_syntax.specs.QueryReaders.{FieldParts, FieldState, Operands, OperandsTailed, RangeRead, RangesTailed, SetOperands, Tailed, add_operand, add_set_operand, and_from, and_move, as_from, at_place, below, comma_move, exists_move, field, first_field, full, full_move, intersect_move, is_word, level, meet_from, more_operands, more_ranges, next, next_move, openand, opennot, opennot_move, openor_from, or_move, path_by, prim, prim_move, quantified, range_from, range_move, select, some_in, union_move, variable}
-use Rattle.oql_syntax.specs.QueryTrees.{QForAll, QName, QueryTree}
+use Rattle.oql_tree.specs.QueryTrees.{QForAll, QName, QueryTree}
 use Rattle.oql_syntax.specs.TailViews.{next_view, quantifier_form, range_view, tail_view}
 use Rattle.oql_syntax.specs.Tails.{Compared}
 use Rattle.oql_syntax.specs.declared.link.WordForm.{WordForm}

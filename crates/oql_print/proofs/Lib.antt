@@ -1,0 +1,2 @@
+pub mod SpellingLoops
+pub mod SpellingExamples

@@ -1,0 +1,3 @@
+pub mod QueryTrees
+pub mod QueryViews
+pub mod Models

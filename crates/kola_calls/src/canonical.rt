@@ -2,8 +2,8 @@
 
 use crate::samples::{Broken, term};
 use kola_canon::{
-    decode_by, encode, encode_type, push_int, push_number, push_set, push_text, type_text,
-    value_text,
+    decode_by, encode, encode_type, push_bytes, push_int, push_number, push_set, push_text,
+    push_type, push_value, type_text, value_text,
 };
 use kola_core::{Memory, Name, Text};
 use kola_database::shaped;
@@ -103,11 +103,12 @@ fn literals(alloc: Global, numbers: &[i64]) -> Result<Option<usize>, Memory> {
     }
 }
 
-/// The number of members of the set of a rising list, which makes the list again.
+/// The number of members of the set of a set's members, which rise.
 fn rising(alloc: Global) -> Result<usize, Memory> {
     let set = ints(alloc, &[5, 4])?;
+    set.well_formed();
     let members = set.into_vec()?;
-    let again = Set::from_members(alloc, members)?;
+    let again = Set::from_rising(members)?;
     Ok(again.len())
 }
 
@@ -185,12 +186,23 @@ fn is_string(alloc: Global, given: &str, text: &str) -> Result<bool, Memory> {
     is_value(alloc, &v, text)
 }
 
-/// The texts of numbers and of a string, one after the other.
+/// The texts of bytes, of numbers, and of a string, one after the other.
 fn is_pushed(alloc: Global, text: &str) -> Result<bool, Memory> {
     let mut out = Vec::new(alloc);
+    push_bytes(&mut out, b"-> ")?;
     push_number(&mut out, 18446744073709551615)?;
     push_int(&mut out, -7)?;
     push_text(&mut out, "a\"")?;
+    Ok(is_text(out.as_slice(), text))
+}
+
+/// The text of the sample's type behind that of its value.
+fn is_pushed_with_type(alloc: Global, text: &str) -> Result<bool, Memory> {
+    let mut out = Vec::new(alloc);
+    let v = struct_value(alloc)?;
+    push_value(&mut out, &v)?;
+    let t = struct_type(alloc)?;
+    push_type(&mut out, &t)?;
     Ok(is_text(out.as_slice(), text))
 }
 
@@ -199,7 +211,13 @@ fn canonical_texts(rt: HostRuntime) -> Result<(), Fail> {
     assert!(rt; is_sample_value(rt.alloc(), "[struct(a: 1, b: {2}), Person#7]")?);
     assert!(rt; is_sample_type(rt.alloc(), "(struct(a: int, b: set<int>), Person)")?);
     assert!(rt; is_string(rt.alloc(), "x\n\u{1}", r#""x\n\u{1}""#)?);
-    assert!(rt; is_pushed(rt.alloc(), r#"18446744073709551615-7"a\"""#)?);
+    assert!(rt; is_pushed(rt.alloc(), r#"-> 18446744073709551615-7"a\"""#)?);
+    assert!(rt;
+        is_pushed_with_type(
+            rt.alloc(),
+            "struct(a: 1, b: {2})struct(a: int, b: set<int>)"
+        )?
+    );
     Ok(())
 }
 

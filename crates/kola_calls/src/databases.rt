@@ -262,24 +262,61 @@ fn verdicts(
     Ok((accepted, make(alloc, &schema, objects)))
 }
 
+/// The ids, the texts and the cars of a second person, and whether the objects then meet the schema.
+const SECOND: [(u32, (&str, &str), &str, u32, bool); 7] = [
+    (2, ("b", "Bob"), "Vehicle", 1, true),
+    // The keys: the ssn, and both names.
+    (2, ("a", "Bob"), "Vehicle", 1, false),
+    (2, ("b", "Ann"), "Vehicle", 1, false),
+    // No such vehicle, and an object of another class.
+    (2, ("b", "Bob"), "Vehicle", 7, false),
+    (2, ("b", "Bob"), "Person", 1, false),
+    // An id that is there, and one that is none.
+    (1, ("b", "Bob"), "Vehicle", 1, false),
+    (0, ("b", "Bob"), "Vehicle", 1, false),
+];
+
 #[test]
 fn objects_meet_the_schema(rt: HostRuntime) -> Result<(), Fail> {
-    for (id, texts, class, car, wanted) in [
-        (2, ("b", "Bob"), "Vehicle", 1, true),
-        // The keys: the ssn, and both names.
-        (2, ("a", "Bob"), "Vehicle", 1, false),
-        (2, ("b", "Ann"), "Vehicle", 1, false),
-        // No such vehicle, and an object of another class.
-        (2, ("b", "Bob"), "Vehicle", 7, false),
-        (2, ("b", "Bob"), "Person", 1, false),
-        // An id that is there, and one that is none.
-        (1, ("b", "Bob"), "Vehicle", 1, false),
-        (0, ("b", "Bob"), "Vehicle", 1, false),
-    ] {
+    for (id, texts, class, car, wanted) in SECOND {
         assert_eq!(rt;
             verdicts(rt.alloc(), id, texts, class, car)?,
             (wanted, Some(wanted))
         );
+    }
+    Ok(())
+}
+
+/// How many persons the database of these objects has; none where they do not meet the schema.
+fn persons_in(
+    alloc: Global,
+    schema: &Schema,
+    objects: Vec<ObjectDef>,
+) -> Result<Option<usize>, Memory> {
+    if !objects_ok(schema, objects.as_slice()) {
+        return Ok(None);
+    }
+    let db = boxed(alloc, Db::make(alloc, schema, objects)?)?;
+    Ok(Some(members_of(alloc, &db, "Persons")?))
+}
+
+fn persons_of(
+    alloc: Global,
+    id: u32,
+    texts: (&str, &str),
+    class: &str,
+    car: u32,
+) -> Result<Option<usize>, Broken> {
+    let schema = schema(alloc)?;
+    let objects = objects(alloc, id, texts, class, car)?;
+    Ok(persons_in(alloc, &schema, objects)?)
+}
+
+#[test]
+fn objects_make_a_database(rt: HostRuntime) -> Result<(), Fail> {
+    for (id, texts, class, car, meet) in SECOND {
+        let wanted = if meet { Some(2) } else { None };
+        assert_eq!(rt; persons_of(rt.alloc(), id, texts, class, car)?, wanted);
     }
     Ok(())
 }

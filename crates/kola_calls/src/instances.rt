@@ -10,7 +10,10 @@ use crate::samples::{Broken, boxed, is_printed, schema, term_with, variables};
 use kola_canon::type_text;
 use kola_core::{Memory, Name, Names};
 use kola_laws::laws;
-use kola_match::{Subst, Tally, binds_all_variables, instantiate, match_at, match_both, rule_ok};
+use kola_match::{
+    Subst, Tally, binds_all_variables, instantiate, instantiate_type, match_at, match_both,
+    rule_ok, same_part,
+};
 use kola_rule::{Rule, RuleTable};
 use kola_schema::Schema;
 use kola_term::{MetaCtx, MetaTy, SubTerm, Term, out_type_without_limit, pred_ok_without_limit};
@@ -92,7 +95,8 @@ fn is_typed(
     part: SubTerm,
     ty: &Ty,
 ) -> Result<bool, Memory>
-    ensures { IfOk result (λ b. b ≡ true → Typed schema.now (context_of ctx.now) (sub_tree part.entry) (type_tree ty.now)) }
+    ensures { IfOk result (λ b. b ≡ true
+        → Typed schema.now (context_of ctx.now) (sub_tree part.entry) (type_tree ty.now)) }
 {
     match part {
         SubTerm::F(f) => {
@@ -293,6 +297,72 @@ fn an_instance_gives_terms_and_input_types(rt: HostRuntime) -> Result<(), Fail> 
     Ok(())
 }
 
+/// Whether a type is this under what was found.
+fn becomes(alloc: Global, subst: &Subst, t: &Ty, text: &str) -> Result<bool, Memory> {
+    let under = boxed(alloc, instantiate_type(alloc, t, subst)?)?;
+    Ok(type_text(alloc, &under)?.as_slice() == text.as_bytes())
+}
+
+/// The sets of a type variable.
+fn sets_of(alloc: Global, name: &str) -> Result<Box<Ty>, Memory> {
+    let member = type_var(alloc, name)?;
+    let sets = Ty::set_of(alloc, member)?;
+    boxed(alloc, sets)
+}
+
+/// Whether the sets of a type variable are these under what was found.
+fn sets_become(alloc: Global, subst: &Subst, name: &str, text: &str) -> Result<bool, Memory> {
+    let sets = sets_of(alloc, name)?;
+    becomes(alloc, subst, &sets, text)
+}
+
+/// Whether a function variable is there, and is the term that is found for it.
+fn is_fun(subst: &Subst, var: &Name) -> bool {
+    match (subst.fun_of(var), subst.term_of(var)) {
+        (Some(f), Some(t)) => same_part(SubTerm::F(f), t.as_part()),
+        (None, None) => true,
+        _ => false,
+    }
+}
+
+fn is_fun_named(alloc: Global, subst: &Subst, var: &str) -> Result<bool, Memory> {
+    let var = Name::from_text(alloc, var)?;
+    Ok(is_fun(subst, &var))
+}
+
+/// Whether an instance of the rule of two functions gives types and functions.
+fn gives_types(alloc: Global, subst: &Subst) -> Result<bool, Memory> {
+    for (name, text) in [
+        ("a", "set<int>"),
+        ("b", "set<string>"),
+        ("c", "set<bool>"),
+        ("d", "set<unit>"),
+    ] {
+        if !sets_become(alloc, subst, name, text)? {
+            return Ok(false);
+        }
+    }
+    Ok(is_fun_named(alloc, subst, "f")? && is_fun_named(alloc, subst, "h")?)
+}
+
+/// The same of the rule's instance in a term at the integers.
+fn gives_types_of(alloc: Global, text: &str) -> Result<bool, Broken> {
+    let schema = schema(alloc)?;
+    let rule = near(alloc)?;
+    let t = term(alloc, text)?;
+    let mut tally = Tally::new();
+    match matched(alloc, &schema, &rule, false, &t, &Ty::Int, &mut tally)? {
+        Some(subst) => Ok(gives_types(alloc, &subst)?),
+        None => Ok(false),
+    }
+}
+
+#[test]
+fn an_instance_gives_types_and_functions(rt: HostRuntime) -> Result<(), Fail> {
+    assert!(rt; gives_types_of(rt.alloc(), "<K(\"a\"), (K(true) o K(\"a\"))>")?);
+    Ok(())
+}
+
 fn all_laws(alloc: Global) -> Result<Box<RuleTable>, Memory> {
     let laws = laws(alloc)?;
     let boxed = boxed(alloc, laws)?;
@@ -307,64 +377,100 @@ fn law<'a>(alloc: Global, laws: &'a RuleTable, name: &str) -> Result<Option<&'a 
     }
 }
 
-/// Whether a law's left side gives a term at persons, and its variable `f` is then this; the empty text stands for no
+/// Whether what was found gives a law's left side this text, and its variable `f` is then this; the empty text stands for no
 /// answer.
+fn gives_f(
+    alloc: Global,
+    rule: &Rule,
+    found: &Option<Box<Subst>>,
+    text: &str,
+    f: &str,
+) -> Result<bool, Memory> {
+    match found {
+        Some(subst) => {
+            Ok(has(alloc, subst, "f", f, "Person")? && is_given(alloc, &rule.left, found, text)?)
+        }
+        None => Ok(f.is_empty()),
+    }
+}
+
+/// Whether the left side of a rule gives a term at persons, with this for `f`.
+fn side_gives(
+    alloc: Global,
+    schema: &Schema,
+    rule: &Rule,
+    text: &str,
+    f: &str,
+) -> Result<bool, Broken> {
+    let person = boxed(alloc, class(alloc, "Person")?)?;
+    let t = term(alloc, text)?;
+    let mut tally = Tally::new();
+    let found = matched(alloc, schema, rule, false, &t, &person, &mut tally)?;
+    Ok(gives_f(alloc, rule, &found, text, f)?)
+}
+
+/// The same of a law.
 fn law_gives(alloc: Global, name: &str, text: &str, f: &str) -> Result<bool, Broken> {
     let schema = schema(alloc)?;
     let laws = all_laws(alloc)?;
-    let person = boxed(alloc, class(alloc, "Person")?)?;
-    let t = term(alloc, text)?;
-    let Some(rule) = law(alloc, &laws, name)? else {
-        return Err(Broken::Refused);
-    };
-    let mut tally = Tally::new();
-    match matched(alloc, &schema, rule, false, &t, &person, &mut tally)? {
-        Some(subst) => Ok(
-            has(alloc, &subst, "f", f, "Person")?
-                && is_given(alloc, &rule.left, &Some(subst), text)?,
-        ),
-        None => Ok(f.is_empty()),
+    match law(alloc, &laws, name)? {
+        Some(rule) => side_gives(alloc, &schema, rule, text, f),
+        None => Ok(false),
     }
 }
 
-/// The same of both sides of the law.
-fn law_gives_both(alloc: Global, name: &str, texts: (&str, &str), f: &str) -> Result<bool, Broken> {
-    let schema = schema(alloc)?;
-    let laws = all_laws(alloc)?;
-    let person = boxed(alloc, class(alloc, "Person")?)?;
-    let left = term(alloc, texts.0)?;
-    let right = term(alloc, texts.1)?;
-    let Some(rule) = law(alloc, &laws, name)? else {
-        return Err(Broken::Refused);
-    };
-    match matched_both(alloc, &schema, rule, (&left, &right), &person)? {
-        Some(subst) => Ok(
-            has(alloc, &subst, "f", f, "Person")?
-                && is_given(alloc, &rule.left, &Some(subst), texts.0)?,
-        ),
-        None => Ok(f.is_empty()),
-    }
-}
+/// Laws, each with a term and what its variable `f` is.
+const GIVEN: [(&str, &str, &str); 4] = [
+    ("eq_self", "(eq @ <.last, .last>)", ".last"),
+    ("eq_self", "(eq @ <.last, .first>)", ""),
+    ("id_left", "(id o .last)", ".last"),
+    ("id_left", "(.last o id)", ""),
+];
 
 #[test]
 fn laws_give_what_stands_at_persons(rt: HostRuntime) -> Result<(), Fail> {
-    for (name, text, f) in [
-        ("eq_self", "(eq @ <.last, .last>)", ".last"),
-        ("eq_self", "(eq @ <.last, .first>)", ""),
-        ("id_left", "(id o .last)", ".last"),
-        ("id_left", "(.last o id)", ""),
-    ] {
-        assert!(rt; law_gives(rt.alloc(), name, text, f)?, "{name} {text}");
+    for (name, text, f) in GIVEN {
+        assert!(rt; law_gives(rt.alloc(), name, text, f)?, "{text}");
     }
-    for (name, left, right, f) in [
-        ("id_left", "(id o .last)", ".last", ".last"),
-        ("id_left", "(id o .last)", ".first", ""),
-        ("id_right", "(.last o id)", ".last", ".last"),
-    ] {
-        assert!(rt;
-            law_gives_both(rt.alloc(), name, (left, right), f)?,
-            "{name} {left} {right}"
-        );
+    Ok(())
+}
+
+/// Whether both sides of a rule give the terms at persons, with this for `f`.
+fn sides_give(
+    alloc: Global,
+    schema: &Schema,
+    rule: &Rule,
+    texts: (&str, &str),
+    f: &str,
+) -> Result<bool, Broken> {
+    let person = boxed(alloc, class(alloc, "Person")?)?;
+    let left = term(alloc, texts.0)?;
+    let right = term(alloc, texts.1)?;
+    let found = matched_both(alloc, schema, rule, (&left, &right), &person)?;
+    Ok(gives_f(alloc, rule, &found, texts.0, f)?)
+}
+
+/// The same of a law.
+fn law_gives_both(alloc: Global, name: &str, texts: (&str, &str), f: &str) -> Result<bool, Broken> {
+    let schema = schema(alloc)?;
+    let laws = all_laws(alloc)?;
+    match law(alloc, &laws, name)? {
+        Some(rule) => sides_give(alloc, &schema, rule, texts, f),
+        None => Ok(false),
+    }
+}
+
+/// Laws, each with two terms and what its variable `f` is.
+const GIVEN_BOTH: [(&str, (&str, &str), &str); 3] = [
+    ("id_left", ("(id o .last)", ".last"), ".last"),
+    ("id_left", ("(id o .last)", ".first"), ""),
+    ("id_right", ("(.last o id)", ".last"), ".last"),
+];
+
+#[test]
+fn laws_give_both_sides_at_persons(rt: HostRuntime) -> Result<(), Fail> {
+    for (name, texts, f) in GIVEN_BOTH {
+        assert!(rt; law_gives_both(rt.alloc(), name, texts, f)?, "{name}");
     }
     Ok(())
 }

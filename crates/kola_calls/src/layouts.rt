@@ -40,7 +40,17 @@ fn sections_are_found_or_the_first_faulty_line(rt: HostRuntime) {
         ("%% Query\n", fault(1, LayoutWhy::UnknownSection)),
         (
             "\n%% rules\n%% query\n",
-            fault(2, LayoutWhy::UnknownSection),
+            Ok(Sections {
+                schema: None,
+                database: None,
+                rules: Some(Span { from: 10, to: 10 }),
+                query: Some(Span { from: 19, to: 19 }),
+                lines: 3,
+            }),
+        ),
+        (
+            "%% query\n%% rules\n",
+            fault(2, LayoutWhy::SectionOutOfOrder),
         ),
         (
             "%% query\n%% schema\n",

@@ -3,9 +3,15 @@
 #![tactic(auto)]
 
 #[cfg(test)]
+mod accepted;
+#[cfg(test)]
 mod canonical;
 #[cfg(test)]
+mod checks;
+#[cfg(test)]
 mod databases;
+#[cfg(test)]
+mod injective;
 #[cfg(test)]
 mod instances;
 #[cfg(test)]
@@ -15,9 +21,13 @@ mod layouts;
 #[cfg(test)]
 mod names;
 #[cfg(test)]
+mod parts;
+#[cfg(test)]
 mod places;
 #[cfg(test)]
 mod queries;
+#[cfg(test)]
+mod rule_texts;
 #[cfg(test)]
 mod rules;
 #[cfg(test)]

@@ -15,13 +15,13 @@ impl From<QueryFault> for Broken {
 }
 
 /// The query of a text.
-fn query(alloc: Global, text: &[u8]) -> Result<Box<Query>, Broken> {
+pub(crate) fn query(alloc: Global, text: &[u8]) -> Result<Box<Query>, Broken> {
     let query = read_query(alloc, text)?;
     Ok(boxed(alloc, query)?)
 }
 
 /// Whether a query is printed so.
-fn is_printed(alloc: Global, query: &Query, spelling: &[u8]) -> Result<bool, Broken> {
+pub(crate) fn is_printed(alloc: Global, query: &Query, spelling: &[u8]) -> Result<bool, Broken> {
     let printed = print_query(alloc, query)?;
     Ok(printed.as_slice() == spelling)
 }

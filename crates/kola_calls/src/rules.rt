@@ -89,14 +89,16 @@ fn rules_are_copied(rt: HostRuntime) -> Result<(), Fail> {
     Ok(())
 }
 
+/// Why a rule was handed back.
+fn wanted(handed_back: (Memory, Rule)) -> Memory {
+    handed_back.0
+}
+
 /// Adds a rule at the end of a table, where its name is new.
 fn add(table: &mut RuleTable, rule: Box<Rule>) -> Result<(), Memory> {
     match table.find(&rule.name) {
         Some(_) => Ok(()),
-        None => match table.push(Box::into_inner(rule)) {
-            Ok(()) => Ok(()),
-            Err((e, _)) => Err(e),
-        },
+        None => table.push(Box::into_inner(rule)).map_err(wanted),
     }
 }
 

@@ -5,7 +5,7 @@ use kola_canon::type_text;
 use kola_core::{Memory, Path};
 use kola_schema::Schema;
 use kola_term::{
-    Const, Fun, MetaCtx, Pred, Term, TypeFault, TypeWhy, const_type, input_at, out_type,
+    Const, Fun, MetaCtx, MetaTy, Pred, Term, TypeFault, TypeWhy, const_type, input_at, out_type,
     out_type_without_limit, pred_ok, pred_ok_without_limit,
 };
 use kola_values::Ty;
@@ -308,5 +308,37 @@ fn input_types(rt: HostRuntime) -> Result<(), Fail> {
     for (text, at, wanted) in shown {
         assert!(rt; is_input(rt.alloc(), text, at, wanted)?, "{text} {wanted}");
     }
+    Ok(())
+}
+
+/// Whether two say the same of a variable.
+fn say_the_same(one: &MetaTy, other: &MetaTy) -> bool {
+    match (one, other) {
+        (MetaTy::Fun(t, u), MetaTy::Fun(v, w)) => t.is(v) && u.is(w),
+        (MetaTy::Pred(t), MetaTy::Pred(u)) | (MetaTy::Const(t), MetaTy::Const(u)) => t.is(u),
+        _ => false,
+    }
+}
+
+/// Whether the copy of what a context says of a variable says the same.
+fn is_copied(alloc: Global, meta: &MetaTy) -> Result<bool, Memory> {
+    let copy = boxed(alloc, meta.copy()?)?;
+    Ok(say_the_same(meta, &copy))
+}
+
+fn are_copied(alloc: Global, vars: &MetaCtx) -> Result<bool, Memory> {
+    for (_, meta) in vars.as_slice() {
+        if !is_copied(alloc, meta)? {
+            return Ok(false);
+        }
+    }
+    Ok(true)
+}
+
+#[test]
+fn what_is_said_of_variables_is_copied(rt: HostRuntime) -> Result<(), Fail> {
+    let vars = variables(rt.alloc())?;
+    assert_eq!(rt; vars.len(), 3);
+    assert!(rt; are_copied(rt.alloc(), &vars)?);
     Ok(())
 }

@@ -1,5 +1,6 @@
 -- The words and a job have at most one answer: it is that of a line of stages, of which each refuses in at most one way or accepts one thing.
 use Rattle.std.proofs.Common.{◌≡◌, ℕ, List, Some, None, Result, Ok, Err, refl, sym, ap, ◌∙◌, subst, arith, IsTrue}
+use Rattle.kola_top.specs.declared.section.Span.{Span}
 use Rattle.kola_top.specs.declared.section.Sections.{Sections}
 use Rattle.kola_top.specs.declared.words.Action.{Action}
 use Rattle.kola_top.specs.declared.status.Status.{Status}
@@ -13,17 +14,25 @@ use Rattle.kola_load.specs.SchemaAccepted.{greatest_nesting}
 use Rattle.kola_load.specs.declared.fault.DbFault.{DbFault}
 use Rattle.kola_load.specs.declared.fault.DbFault.TheVariants.{NotJson, Memory}
 use Rattle.kola_load.proofs.OneSchema.{one_schema, schema_or_fault, one_schema_fault}
-use Rattle.kola_top.specs.Words.{action_of}
+use Rattle.kola_base.specs.declared.text_fault.TextWhy.{TextWhy}
+use Rattle.kola_rule.specs.Rules.{DraftTree}
+use Rattle.kola_laws.specs.Laws.{laws}
+use Rattle.kola_proof.specs.declared.fault.StepWhy.{StepWhy}
+use Rattle.kola_top.specs.declared.words.Action.TheVariants.{Check, Run}
+use Rattle.kola_top.specs.Words.{action_of, needs}
+use Rattle.kola_top.specs.Layout.{place_of}
 use Rattle.kola_top.specs.SelectForm.{SelectForm, Says}
-use Rattle.kola_top.specs.FaultLines.{layout_fault_line, query_fault_line, schema_line, database_line}
+use Rattle.kola_top.specs.FaultLines.{layout_fault_line, schema_line, rules_line, rule_line, query_fault_line, database_line}
+use Rattle.kola_top.specs.Report.{report_text}
 use Rattle.kola_top.specs.Runs.{is_written}
-use Rattle.kola_top.specs.Stages.{text_at, text_in, IsQuery, IsTaken, IsLaidOut, HasSections, HasSchema, HasQueryText, HasQuery}
-use Rattle.kola_top.specs.Answer.{IsRefused, Answer, usage, too_long, layout, missing, schema, query_text, query, database, report}
+use Rattle.kola_top.specs.Stages.{text_at, text_in, IsQuery, IsTaken, IsLaidOut, HasSections, HasSchema, HasRulesText, HasRules, HasQueryText, HasQuery}
+use Rattle.kola_top.specs.Answer.{IsRefused, report_of_form, Answer, usage, too_long, layout, missing, schema, rules_text, rule, check_report, query_text, query, database, run_report}
+use Rattle.kola_top.proofs.RulesLaws.{one_file, file_or_fault, one_rules_fault, one_bad_draft, valid_or_bad}
 use Rattle.kola_top.proofs.FoundLaws.{one_fault, one_layout}
 use Rattle.kola_top.proofs.FormLaws.{one_form}
 use Rattle.kola_top.proofs.QueryTextLaws.{spelled_or_at_fault, one_fault_of_query}
 use Rattle.kola_top.specs.Staged.{Then, refused, onward}
-use Rattle.kola_top.specs.StageLine.{at_words, at_length, at_layout, at_place, at_schema, at_query_text, at_query, at_database, Reported, reported, FromDatabase, FromQuery, FromQueryText, FromSchema, FromPlace, OnItsWay, AllTheWay}
+use Rattle.kola_top.specs.StageLine.{at_words, at_length, at_layout, at_place, at_schema, at_rules_text, at_rules, at_query_text, at_query, at_database, Reported, reported, FromDatabase, FromQuery, FromQueryText, BehindRules, FromRules, FromRulesText, FromSchema, FromPlace, OnItsWay, AllTheWay}
 use Rattle.kola_top.proofs.Staged.{One, IsOne, one_then}
 
 one_query : (text : List ℕ) (f g : SelectForm) → IsQuery text f → IsQuery text g → f ≡ g
@@ -68,26 +77,45 @@ not_refused S text _ j os (no_value h) a p = h j a
 -- ---- the answer as a line of stages
 
 module _ (words : List (List ℕ)) (job : List ℕ) where
+  -- what comes behind a stage comes on the whole line
+  module _ {a : Action} where
+    taken : (t : IsTaken words job a) (s : Status) (b : List ℕ) → OnItsWay a job s b → AllTheWay words job s b
+    taken t s b k = onward a s b t.command (onward tt s b t.is_short k)
+
+    laid_out : (l : IsLaidOut words job a) (s : Status) (b : List ℕ) → FromPlace a job l.found s b → AllTheWay words job s b
+    laid_out l s b k = taken l.before s b (onward l.found s b l.sections k)
+
+    with_sections : (c : HasSections words job a) (s : Status) (b : List ℕ) → FromSchema a job c.before.found c.place s b → AllTheWay words job s b
+    with_sections c s b k = laid_out c.before s b (onward c.place s b c.needed k)
+
+    with_schema : (c : HasSchema words job a) (s : Status) (b : List ℕ) → FromRulesText a job c.before.before.found c.before.place c.classes s b → AllTheWay words job s b
+    with_schema c s b k = with_sections c.before s b (onward c.classes s b c.writes k)
+
+    with_drafts : (r : HasRulesText words job a) (s : Status) (b : List ℕ) → FromRules a job r.before.before.before.found r.before.before.place r.before.classes r.drafts s b → AllTheWay words job s b
+    with_drafts r s b k = with_schema r.before s b (onward r.drafts s b r.writes k)
+
+    with_rules : (r : HasRules words job a) (s : Status) (b : List ℕ) → BehindRules a job r.before.before.before.before.found r.before.before.before.place r.before.before.classes r.before.drafts s b → AllTheWay words job s b
+    with_rules r s b k = with_drafts r.before s b (onward tt s b r.valid k)
+
+  with_query_text : (w : HasQueryText words job) (s : Status) (b : List ℕ) → FromQuery job w.before.before.before.before.before.found w.before.before.before.before.place w.before.before.before.classes s b → AllTheWay words job s b
+  with_query_text w s b k = with_rules w.before s b (onward tt s b (w.query, w.spells) k)
+
+  with_query : (q : HasQuery words job) (s : Status) (b : List ℕ) → FromDatabase job q.before.before.before.before.before.before.found q.before.before.before.before.classes q.form s b → AllTheWay words job s b
+  with_query q s b k = with_query_text q.before s b (onward q.form s b q.is k)
+
   pub staged : (s : Status) (b : List ℕ) → Answer words job s b → AllTheWay words job s b
   staged _ _ (usage e) = refused tt e
   staged _ _ (too_long a e h) = onward a _ _ e (refused tt h)
-  staged _ _ (layout f s h) = onward s.action _ _ s.command (onward tt _ _ s.is_short (refused f h))
-  staged _ _ (missing s h) = onward s.before.action _ _ s.before.command (onward tt _ _ s.before.is_short (onward s.found _ _ s.sections (refused tt h)))
-  staged _ _ (schema at why s h) =
-      let l = s.before in let t = l.before in
-      onward t.action _ _ t.command (onward tt _ _ t.is_short (onward l.found _ _ l.sections (onward s.place _ _ s.query (refused (at, why) h))))
-  staged _ _ (query_text at cause c h) =
-      let s = c.before in let l = s.before in let t = l.before in
-      onward t.action _ _ t.command (onward tt _ _ t.is_short (onward l.found _ _ l.sections (onward s.place _ _ s.query (onward c.classes _ _ c.writes (refused (at, cause) h)))))
-  staged _ _ (query w h) =
-      let c = w.before in let s = c.before in let l = s.before in let t = l.before in
-      onward t.action _ _ t.command (onward tt _ _ t.is_short (onward l.found _ _ l.sections (onward s.place _ _ s.query (onward c.classes _ _ c.writes (onward tt _ _ (w.query, w.spells) (refused tt h))))))
-  staged _ _ (database e q h) =
-      let w = q.before in let c = w.before in let s = c.before in let l = s.before in let t = l.before in
-      onward t.action _ _ t.command (onward tt _ _ t.is_short (onward l.found _ _ l.sections (onward s.place _ _ s.query (onward c.classes _ _ c.writes (onward tt _ _ (w.query, w.spells) (onward q.form _ _ q.is (refused e h)))))))
-  staged _ _ (report d) =
-      let q = d.before in let w = q.before in let c = w.before in let s = c.before in let l = s.before in let t = l.before in
-      onward t.action _ _ t.command (onward tt _ _ t.is_short (onward l.found _ _ l.sections (onward s.place _ _ s.query (onward c.classes _ _ c.writes (onward tt _ _ (w.query, w.spells) (onward q.form _ _ q.is (onward tt _ _ (d.value, d.objects, d.reads, d.writes) reported)))))))
+  staged _ _ (layout a f s h) = taken s _ _ (refused f h)
+  staged _ _ (missing a s h) = laid_out s _ _ (refused tt h)
+  staged _ _ (schema a at why s h) = with_sections s _ _ (refused (at, why) h)
+  staged _ _ (rules_text a at why s h) = with_schema s _ _ (refused (at, why) h)
+  staged _ _ (rule a name step why s h) = with_drafts s _ _ (refused (name, step, why) h)
+  staged _ _ (check_report s) = with_rules s _ _ reported
+  staged _ _ (query_text at cause s h) = with_rules s _ _ (refused (at, cause) h)
+  staged _ _ (query s h) = with_query_text s _ _ (refused tt h)
+  staged _ _ (database e s h) = with_query s _ _ (refused e h)
+  staged _ _ (run_report s) = with_query s.before _ _ (onward tt _ _ (s.value, s.objects, s.reads, s.writes) reported)
 
   -- ---- each stage refuses in at most one way or accepts one thing
 
@@ -104,14 +132,29 @@ module _ (words : List (List ℕ)) (job : List ℕ) where
     not_both = λ e x p q. q.faultless p.at e.why p.faulty;
   }
 
-  one_place : (found : Sections) → IsOne (at_place found)
-  one_place found = record { one_refusal = λ _ _ _ _. (refl, refl); one_thing = λ x y p q. some_is x y (sym p ∙ q); not_both = λ _ x p q. absurd (let i : None ≡ Some x = sym p ∙ q in cc) }
+  one_place : (a : Action) (found : Sections) → IsOne (at_place a found)
+  one_place a found = record { one_refusal = λ _ _ _ _. (refl, refl); one_thing = λ x y p q. some_is x y (sym p ∙ q); not_both = λ _ x p q. absurd (let i : None ≡ Some x = sym p ∙ q in cc) }
 
   one_classes : (text : List ℕ) → IsOne (at_schema text)
   one_classes text = record {
     one_refusal = λ e f p q. let same = one_schema_fault greatest_nesting text e.0 f.0 e.1 f.1 p q in (refl, ap (λ n. schema_line n e.1) same.0 ∙ ap (schema_line f.0) same.1);
     one_thing = λ x y p q. one_schema greatest_nesting text x y p q;
     not_both = λ e x p q. schema_or_fault greatest_nesting text x e.0 e.1 q p;
+  }
+
+  one_drafts : (text : List ℕ) → IsOne (at_rules_text text)
+  one_drafts text = record {
+    one_refusal = λ e f p q. let same = one_rules_fault text e.0 f.0 e.1 f.1 p q in (refl, ap (λ n. rules_line n e.1) same.0 ∙ ap (rules_line f.0) same.1);
+    one_thing = λ x y p q. one_file text x y p q;
+    not_both = λ e x p q. file_or_fault text x e.0 e.1 q p;
+  }
+
+  one_rules : (S : Classes) (ds : List DraftTree) → IsOne (at_rules S ds)
+  one_rules S ds = record {
+    one_refusal = λ e f p q. let same = one_bad_draft S ds e.0 f.0 e.1 f.1 e.2 f.2 p q in
+        (refl, ap (λ n. rule_line n e.1 e.2) same.0 ∙ (ap (λ n. rule_line f.0 n e.2) same.1 ∙ ap (rule_line f.0 f.1) same.2));
+    one_thing = λ _ _ _ _. refl;
+    not_both = λ e _ p q. valid_or_bad S ds e.0 e.1 e.2 q p;
   }
 
   one_spelled : (text : List ℕ) → IsOne (at_query_text text)
@@ -131,59 +174,68 @@ module _ (words : List (List ℕ)) (job : List ℕ) where
     not_both = λ e _ p q. not_refused S text e q.0 q.1 (refusal S text e p) q.2 q.3;
   }
 
-  one_report : (f : SelectForm) → One (Reported f)
-  one_report f _ _ _ _ reported reported = (refl, refl)
+  one_report : (text : List ℕ) → One (Reported text)
+  one_report text _ _ _ _ reported reported = (refl, refl)
+
+  one_run : (found : Sections) (p : Span) (S : Classes) → One (FromQueryText job found p S)
+  one_run found p S =
+      one_then (at_query_text (text_at job p)) _ (one_spelled (text_at job p)) (λ _ _. one_then (at_query (text_at job p)) _ (one_select (text_at job p)) (λ f _.
+      one_then (at_database S (text_in job found.database)) _ (one_objects S (text_in job found.database)) (λ _ _. one_report (report_text (report_of_form f)))))
+
+  one_behind : (a : Action) (found : Sections) (p : Span) (S : Classes) (ds : List DraftTree) → One (BehindRules a job found p S ds)
+  one_behind Check found p S ds = one_report _
+  one_behind Run found p S ds = one_run found p S
 
   one_staged : One (AllTheWay words job)
   one_staged =
-      one_then (at_words words) _ one_words (λ _ _. one_then (at_length job) _ one_length (λ _ _. one_then (at_layout job) _ one_lay_out (λ found _. one_then (at_place found) _ (one_place found) (λ p _.
-      one_then (at_schema (text_in job found.schema)) _ (one_classes (text_in job found.schema)) (λ S _. one_then (at_query_text (text_at job p)) _ (one_spelled (text_at job p)) (λ _ _. one_then (at_query (text_at job p)) _ (one_select (text_at job p)) (λ f _.
-      one_then (at_database S (text_in job found.database)) _ (one_objects S (text_in job found.database)) (λ _ _. one_report f))))))))
+      one_then (at_words words) _ one_words (λ a _. one_then (at_length job) _ one_length (λ _ _. one_then (at_layout job) _ one_lay_out (λ found _. one_then (at_place a found) _ (one_place a found) (λ p _.
+      one_then (at_schema (text_in job found.schema)) _ (one_classes (text_in job found.schema)) (λ S _. one_then (at_rules_text (text_in job found.rules)) _ (one_drafts (text_in job found.rules)) (λ ds _.
+      one_then (at_rules S ds) _ (one_rules S ds) (λ _ _. one_behind a found p S ds)))))))
 
   pub one_answer : One (Answer words job)
   one_answer s t b c x y = one_staged s t b c (staged s b x) (staged t c y)
 
   -- the line of stages says nothing else
-  from_database : (q : HasQuery words job) (s : Status) (b : List ℕ) → FromDatabase job q.before.before.before.before.found q.before.before.classes q.form s b → Answer words job s b
+  from_database : (q : HasQuery words job) (s : Status) (b : List ℕ) → FromDatabase job q.before.before.before.before.before.before.found q.before.before.before.before.classes q.form s b → Answer words job s b
   from_database q _ _ (refused e h) = database e q h
-  from_database q _ _ (onward _ _ _ d reported) = report (record { before = q; value = d.0; objects = d.1; reads = d.2; writes = d.3 })
+  from_database q _ _ (onward _ _ _ d reported) = run_report (record { before = q; value = d.0; objects = d.1; reads = d.2; writes = d.3 })
 
-  from_query : (w : HasQueryText words job) (s : Status) (b : List ℕ) → FromQuery job w.before.before.before.found w.before.before.place w.before.classes s b → Answer words job s b
+  from_query : (w : HasQueryText words job) (s : Status) (b : List ℕ) → FromQuery job w.before.before.before.before.before.found w.before.before.before.before.place w.before.before.before.classes s b → Answer words job s b
   from_query w _ _ (refused _ h) = query w h
   from_query w _ _ (onward f s b i k) = from_database (record { before = w; form = f; is = i }) s b k
 
-  from_query_text : (c : HasSchema words job) (s : Status) (b : List ℕ) → FromQueryText job c.before.before.found c.before.place c.classes s b → Answer words job s b
+  from_query_text : (c : HasRules words job Run) (s : Status) (b : List ℕ) → FromQueryText job c.before.before.before.before.found c.before.before.before.place c.before.before.classes s b → Answer words job s b
   from_query_text c _ _ (refused f h) = query_text f.0 f.1 c h
   from_query_text c _ _ (onward _ s b q k) = from_query (record { before = c; query = q.0; spells = q.1 }) s b k
 
-  from_schema : (l : HasSections words job) (s : Status) (b : List ℕ) → FromSchema job l.before.found l.place s b → Answer words job s b
-  from_schema l _ _ (refused f h) = schema f.0 f.1 l h
-  from_schema l _ _ (onward S s b w k) = from_query_text (record { before = l; classes = S; writes = w }) s b k
+  behind_rules : (a : Action) (r : HasRules words job a) (s : Status) (b : List ℕ) → BehindRules a job r.before.before.before.before.found r.before.before.before.place r.before.before.classes r.before.drafts s b → Answer words job s b
+  behind_rules Check r _ _ reported = check_report r
+  behind_rules Run r s b k = from_query_text r s b k
 
-  from_place : (l : IsLaidOut words job) (s : Status) (b : List ℕ) → FromPlace job l.found s b → Answer words job s b
-  from_place l _ _ (refused _ h) = missing l h
-  from_place l _ _ (onward p s b q k) = from_schema (record { before = l; place = p; query = q }) s b k
+  from_rules : (a : Action) (r : HasRulesText words job a) (s : Status) (b : List ℕ) → FromRules a job r.before.before.before.found r.before.before.place r.before.classes r.drafts s b → Answer words job s b
+  from_rules a r _ _ (refused f h) = rule a f.0 f.1 f.2 r h
+  from_rules a r _ _ (onward _ s b v k) = behind_rules a (record { before = r; valid = v }) s b k
 
-  pub answered : (t : IsTaken words job) (s : Status) (b : List ℕ) → OnItsWay job s b → Answer words job s b
-  answered t _ _ (refused f h) = layout f t h
-  answered t _ _ (onward found s b l k) = from_place (record { before = t; found = found; sections = l }) s b k
+  from_rules_text : (a : Action) (c : HasSchema words job a) (s : Status) (b : List ℕ) → FromRulesText a job c.before.before.found c.before.place c.classes s b → Answer words job s b
+  from_rules_text a c _ _ (refused f h) = rules_text a f.0 f.1 c h
+  from_rules_text a c _ _ (onward ds s b w k) = from_rules a (record { before = c; drafts = ds; writes = w }) s b k
 
-  from_length : (a : Action) → action_of words ≡ Some a → (s : Status) (b : List ℕ) → Then (at_length job) (λ _. OnItsWay job) s b → Answer words job s b
+  from_schema : (a : Action) (l : HasSections words job a) (s : Status) (b : List ℕ) → FromSchema a job l.before.found l.place s b → Answer words job s b
+  from_schema a l _ _ (refused f h) = schema a f.0 f.1 l h
+  from_schema a l _ _ (onward S s b w k) = from_rules_text a (record { before = l; classes = S; writes = w }) s b k
+
+  from_place : (a : Action) (l : IsLaidOut words job a) (s : Status) (b : List ℕ) → FromPlace a job l.found s b → Answer words job s b
+  from_place a l _ _ (refused _ h) = missing a l h
+  from_place a l _ _ (onward p s b q k) = from_schema a (record { before = l; place = p; needed = q }) s b k
+
+  pub answered : (a : Action) (t : IsTaken words job a) (s : Status) (b : List ℕ) → OnItsWay a job s b → Answer words job s b
+  answered a t _ _ (refused f h) = layout a f t h
+  answered a t _ _ (onward found s b l k) = from_place a (record { before = t; found = found; sections = l }) s b k
+
+  from_length : (a : Action) → action_of words ≡ Some a → (s : Status) (b : List ℕ) → Then (at_length job) (λ _. OnItsWay a job) s b → Answer words job s b
   from_length a e _ _ (refused _ h) = too_long a e h
-  from_length a e _ _ (onward _ s b h k) = answered (record { action = a; command = e; is_short = h }) s b k
+  from_length a e _ _ (onward _ s b h k) = answered a (record { command = e; is_short = h }) s b k
 
   pub wholly_answered : (s : Status) (b : List ℕ) → AllTheWay words job s b → Answer words job s b
   wholly_answered _ _ (refused _ e) = usage e
   wholly_answered _ _ (onward a s b e k) = from_length a e s b k
-
-  -- each answer is one that is written
-  pub answers_are_written : (s : Status) (b : List ℕ) → Answer words job s b → IsTrue (is_written s)
-  answers_are_written _ _ (usage e) = refl
-  answers_are_written _ _ (too_long a e h) = refl
-  answers_are_written _ _ (layout f s h) = refl
-  answers_are_written _ _ (missing s h) = refl
-  answers_are_written _ _ (schema at why s h) = refl
-  answers_are_written _ _ (query_text at cause c h) = refl
-  answers_are_written _ _ (query w h) = refl
-  answers_are_written _ _ (database e q h) = refl
-  answers_are_written _ _ (report d) = refl

@@ -1,7 +1,7 @@
 -- Layouts of small jobs, computed.
 use Rattle.std.proofs.Common.{◌≡◌, [], ◌∷◌, refl}
 use Rattle.std.specs.Prelude.{codes}
-use Rattle.kola_top.specs.declared.section.Section.TheVariants.{Query}
+use Rattle.kola_top.specs.declared.section.Section.TheVariants.{Rules, Query}
 use Rattle.kola_top.specs.declared.lines.Kind.TheVariants.{Blank, Text, Unknown, Header}
 use Rattle.kola_top.specs.Layout.{lines_of, lines_from, kind, kinds, trim_blanks, section_of, next_header}
 
@@ -22,6 +22,10 @@ returns_in_lines = refl
 header_with_blanks : kind (codes "%% query \t") ≡ Header Query
 unfolding kind trim_blanks section_of
 header_with_blanks = refl
+
+header_of_rules : kind (codes "%% rules") ≡ Header Rules
+unfolding kind trim_blanks section_of
+header_of_rules = refl
 
 no_header : kinds (lines_of (codes " \t\n\n %% query\n%%query\n%% Query\n%% query x")) ≡ Blank ∷ Blank ∷ Text ∷ Unknown ∷ Unknown ∷ Unknown ∷ []
 unfolding lines_from kind trim_blanks section_of

@@ -15,6 +15,9 @@ mod ReportLaws
 mod LexemeLoop
 mod QueryReading
 mod QueryTextLaws
+mod RulesLaws
+mod RuleLines
+mod RuleExamples
 mod Examples
 mod QueryExamples
 mod SelectLaws

@@ -7,7 +7,8 @@ use Rattle.kola_values.specs.Values.{VInt, VSet, of_items}
 use Rattle.kola_values.specs.Sets.{set_of}
 use Rattle.kola_term.specs.Terms.{CInt, CSet, FId, FSnd, FComp, FPair, FK, FIter, PLt, PAt}
 use Rattle.kola_top.specs.declared.layout.LayoutWhy.TheVariants.{UnknownSection}
-use Rattle.kola_top.specs.declared.words.Action.TheVariants.{Run}
+use Rattle.kola_top.specs.declared.words.Action.TheVariants.{Check, Run}
+use Rattle.kola_top.specs.declared.section.Section.TheVariants.{Rules, Query}
 use Rattle.kola_top.specs.Words.{action_of}
 use Rattle.kola_base.specs.Lexemes.{LWord, LNumber, LSign}
 use Rattle.kola_base.specs.QueryWords.{is_name, is_among}
@@ -66,6 +67,9 @@ report_one = refl
 runs : action_of (codes "run" ∷ []) ≡ Some Run
 runs = refl
 
+checks : action_of (codes "check" ∷ []) ≡ Some Check
+checks = refl
+
 runs_nothing : action_of (codes "run" ∷ codes "run" ∷ []) ≡ None
 runs_nothing = refl
 
@@ -73,9 +77,13 @@ unknown_section : layout_fault_line (record { line = 12; why = UnknownSection })
 unfolding digits
 unknown_section = refl
 
-missing_query : missing_line 1 (codes "query") ≡ codes "fault: layout line 1: SectionMissing query\n"
+missing_query : missing_line 1 Query ≡ codes "fault: layout line 1: SectionMissing query\n"
 unfolding digits
 missing_query = refl
+
+missing_rules : missing_line 7 Rules ≡ codes "fault: layout line 7: SectionMissing rules\n"
+unfolding digits
+missing_rules = refl
 
 not_built : not_built_line ≡ codes "fault: query at 0: NotBuilt\n"
 unfolding digits

@@ -9,7 +9,7 @@ use Rattle.kola_top.specs.declared.status.Status.TheVariants as statuses
 use Rattle.kola_top.specs.Words.{action_of}
 use Rattle.kola_top.specs.FaultLines.{usage_line, too_long_line}
 use Rattle.kola_top.specs.Stages.{greatest_length}
-use Rattle.kola_top.specs.Answer.{Answer, usage, too_long, layout, missing, schema, query_text, query, database, report}
+use Rattle.kola_top.specs.Answer.{Answer, usage, too_long, layout, missing, schema, rules_text, rule, check_report, query_text, query, database, run_report}
 use Rattle.kola_top.specs.Runs.{Tells, Wrote, Completes, Sent, whole, front, is_written}
 use Rattle.kola_top.proofs.AnswerLaws.{one_answer}
 
@@ -49,13 +49,16 @@ silent before after m n due _ bytes written (front k proper sent rose) (inr e) =
 answer_usage : (words : List (List ℕ)) (job : List ℕ) (s : Status) (b : List ℕ) → Answer words job s b → s ≡ statuses.Usage → action_of words ≡ None
 answer_usage words job _ _ (usage e) u = e
 answer_usage words job _ _ (too_long a d h) u = cc
-answer_usage words job _ _ (layout f t h) u = cc
-answer_usage words job _ _ (missing l h) u = cc
-answer_usage words job _ _ (schema at why l h) u = cc
-answer_usage words job _ _ (query_text at cause c h) u = cc
-answer_usage words job _ _ (query c h) u = cc
-answer_usage words job _ _ (database e q h) u = cc
-answer_usage words job _ _ (report d) u = cc
+answer_usage words job _ _ (layout a f s h) u = cc
+answer_usage words job _ _ (missing a s h) u = cc
+answer_usage words job _ _ (schema a at why s h) u = cc
+answer_usage words job _ _ (rules_text a at why s h) u = cc
+answer_usage words job _ _ (rule a name step why s h) u = cc
+answer_usage words job _ _ (check_report s) u = cc
+answer_usage words job _ _ (query_text at cause s h) u = cc
+answer_usage words job _ _ (query s h) u = cc
+answer_usage words job _ _ (database e s h) u = cc
+answer_usage words job _ _ (run_report s) u = cc
 
 pub usage_only : (words : List (List ℕ)) (job : List ℕ) (before after : Option (List ℕ)) (m n : ℕ) (due status : Status) (bytes sent : List ℕ) → Answer words job due bytes → Sent due sent before after m n status
     → status ≡ statuses.Usage → action_of words ≡ None

@@ -1,16 +1,27 @@
 -- From what each stage answers to the answer of the line.
 use Rattle.std.proofs.Common.{◌≡◌, ℕ, List, true, Result, Ok, Err, refl, sym, subst}
 use Rattle.kola_top.specs.declared.refusal.Refusal.{Refusal}
-use Rattle.kola_top.specs.declared.refusal.Refusal.TheVariants.{Layout, NoQuery, Schema, Query, NotBuilt, Database, Memory}
+use Rattle.kola_top.specs.declared.refusal.Refusal.TheVariants.{Layout, Missing, Schema, Rules, Rule, Query, NotBuilt, Database, Memory}
 use Rattle.kola_top.specs.declared.status.Status.{Status}
 use Rattle.kola_top.specs.Staged.{Says, Stage, Then, refused, onward}
-use Rattle.kola_top.specs.StageLine.{at_schema, at_query_text}
-use Rattle.kola_top.specs.Refusals.{of_schema, of_query, is_told, status_of, line_of, Refuses, Replies, IsOf, Passes}
+use Rattle.kola_top.specs.StageLine.{at_schema, at_rules_text, at_rules, at_query_text}
+use Rattle.kola_top.specs.Refusals.{of_schema, of_rules, of_file, of_query, is_told, status_of, line_of, Refuses, Replies, IsOf, Passes}
 use Rattle.std.specs.Result.{IsErrAnd}
 use Rattle.kola_load.specs.SchemaAccepted.{greatest_nesting, IsFault}
 use Rattle.kola_load.specs.declared.schema_fault.SchemaFault.{SchemaFault}
 use Rattle.kola_load.specs.declared.schema_fault.SchemaFault.TheVariants.{At}
 use Rattle.kola_load.specs.declared.schema_fault.SchemaFault.TheVariants as fault
+use Rattle.kola_base.specs.Spelled.{IsFault as IsTextFault}
+use Rattle.kola_base.specs.declared.text_fault.TextFault.{TextFault}
+use Rattle.kola_base.specs.declared.text_fault.TextFault.TheVariants as text
+use Rattle.kola_values.specs.Databases.{Classes}
+use Rattle.kola_rule.specs.Rules.{DraftTree}
+use Rattle.kola_laws.specs.Laws.{laws}
+use Rattle.coko_text.specs.RuleGrammar.{FileText}
+use Rattle.coko_text.specs.Limits.{greatest_nesting as greatest_type_nesting}
+use Rattle.kola_proof.specs.Accepting.{IsFileVerdict}
+use Rattle.kola_proof.specs.declared.fault.FileFault.{FileFault}
+use Rattle.kola_proof.specs.declared.fault.FileFault.TheVariants as file
 use Rattle.oql_syntax.specs.QueryAnswers.{IsQueryRefusal, why_cause, fault_refusal}
 use Rattle.oql_syntax.specs.declared.read.QueryFault.{QueryFault}
 use Rattle.oql_syntax.specs.declared.read.QueryFault.TheVariants as query
@@ -18,8 +29,10 @@ use Rattle.oql_syntax.specs.declared.read.QueryFault.TheVariants as query
 -- what is said of one is said of the other
 pub refuses_too : (A B : Says) → ((s : Status) (b : List ℕ) → A s b → B s b) → (r : Refusal) → Refuses A r → Refuses B r
 refuses_too A B f (Layout x) h = f _ _ h
-refuses_too A B f (NoQuery x) h = f _ _ h
+refuses_too A B f (Missing x y) h = f _ _ h
 refuses_too A B f (Schema x y) h = f _ _ h
+refuses_too A B f (Rules x y) h = f _ _ h
+refuses_too A B f (Rule x y z) h = f _ _ h
 refuses_too A B f (Query x y) h = f _ _ h
 refuses_too A B f NotBuilt h = f _ _ h
 refuses_too A B f (Database x) h = f _ _ h
@@ -53,6 +66,14 @@ pub schema_refused : (text : List ℕ) (f : SchemaFault) → IsFault greatest_ne
 schema_refused text (At at why) h = ((at, why), h, refl, refl)
 schema_refused text fault.Memory h = tt
 
+pub rules_refused : (t : List ℕ) (f : TextFault) → IsTextFault FileText greatest_type_nesting t f → Refuses (IsOf (at_rules_text t)) (of_rules f)
+rules_refused t (text.At at why) h = ((at, why), h, refl, refl)
+rules_refused t text.Memory h = tt
+
+pub file_refused : (S : Classes) (ds : List DraftTree) (f : FileFault) → IsFileVerdict {A = Unit {0}} S laws ds (Err f) → Refuses (IsOf (at_rules S ds)) (of_file f)
+file_refused S ds (file.Refused name step why) h = ((name, step, why), h.0, refl, refl)
+file_refused S ds file.Memory h = tt
+
 pub query_refused : (text : List ℕ) (f : QueryFault) → IsQueryRefusal text (fault_refusal f) → Refuses (IsOf (at_query_text text)) (of_query f)
 query_refused text (query.At at why) h = ((at, why_cause why), h, refl, refl)
 query_refused text query.Memory h = tt
@@ -60,8 +81,10 @@ query_refused text query.Memory h = tt
 -- a refusal that is told says its answer
 pub told_refuses : (A : Says) (r : Refusal) → is_told r ≡ true → Refuses A r → A (status_of r) (line_of r)
 told_refuses A (Layout x) t h = h
-told_refuses A (NoQuery x) t h = h
+told_refuses A (Missing x y) t h = h
 told_refuses A (Schema x y) t h = h
+told_refuses A (Rules x y) t h = h
+told_refuses A (Rule x y z) t h = h
 told_refuses A (Query x y) t h = h
 told_refuses A NotBuilt t h = h
 told_refuses A (Database x) t h = h

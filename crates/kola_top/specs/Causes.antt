@@ -1,15 +1,20 @@
 -- The causes of the refusals of a job, as laws on its answer.
 use Rattle.std.specs.Prelude.{◌≡◌, ◌⊎◌, ℕ, ◌<◌, List, length, None, Some}
+use Rattle.kola_base.specs.declared.text_fault.TextWhy.{TextWhy}
 use Rattle.kola_top.specs.declared.words.Action.{Action}
+use Rattle.kola_top.specs.declared.words.Action.TheVariants.{Check, Run}
 use Rattle.kola_top.specs.declared.layout.LayoutFault.{LayoutFault}
 use Rattle.kola_top.specs.declared.status.Status.{Status}
 use Rattle.kola_top.specs.declared.status.Status.TheVariants as statuses
-use Rattle.kola_top.specs.Words.{action_of}
-use Rattle.kola_top.specs.Layout.{lines_of, kinds, IsFirstFault}
+use Rattle.kola_top.specs.Words.{action_of, needs}
+use Rattle.kola_top.specs.Layout.{lines_of, kinds, IsFirstFault, place_of}
 use Rattle.kola_load.specs.SchemaAccepted.{greatest_nesting, FaultOf}
 use Rattle.kola_load.specs.declared.schema_fault.SchemaWhy.{SchemaWhy}
 use Rattle.kola_load.specs.declared.fault.DbFault.{DbFault}
-use Rattle.kola_top.specs.Stages.{greatest_length, text_at, text_in, IsNoQuery, IsTaken, IsLaidOut, HasSections, HasSchema, HasQueryText, HasQuery}
+use Rattle.kola_laws.specs.Laws.{laws}
+use Rattle.kola_proof.specs.Drafts.{FirstBadDraft}
+use Rattle.kola_proof.specs.declared.fault.StepWhy.{StepWhy}
+use Rattle.kola_top.specs.Stages.{greatest_length, text_at, text_in, IsRulesFault, IsNoQuery, IsTaken, IsLaidOut, HasSections, HasSchema, HasRulesText, HasRules, HasQueryText, HasQuery, HasDatabase}
 use Rattle.oql_syntax.specs.QueryAnswers.{IsQueryFault}
 use Rattle.oql_syntax.specs.QueryFaults.{QueryCause}
 use Rattle.kola_top.specs.Answer.{Answer, IsRefused}
@@ -18,11 +23,12 @@ use Rattle.kola_top.specs.Answer.{Answer, IsRefused}
 abbrev pub Cause : List (List ℕ) → List ℕ → Status → Type 0
 Cause words job statuses.Usage = action_of words ≡ None
 Cause words job statuses.TooLong = (a : Action) × (action_of words ≡ Some a) × (greatest_length < length job)
-Cause words job statuses.Layout = (IsTaken words job × ((fault : LayoutFault) × IsFirstFault (kinds (lines_of job)) fault)) ⊎ ((s : IsLaidOut words job) × (s.found.query ≡ None))
-Cause words job statuses.Schema = (s : HasSections words job) × ((at : ℕ) × (why : SchemaWhy) × FaultOf greatest_nesting (text_in job s.before.found.schema) at why)
-Cause words job statuses.Query = ((s : HasSchema words job) × ((at : ℕ) × (cause : QueryCause) × IsQueryFault (text_at job s.before.place) at cause)) ⊎ ((s : HasQueryText words job) × IsNoQuery (text_at job s.before.before.place))
-Cause words job statuses.Database = (s : HasQuery words job) × ((e : DbFault) × IsRefused s.before.before.classes (text_in job s.before.before.before.before.found.database) e)
-Cause words job statuses.Ok = HasQuery words job
+Cause words job statuses.Layout = (a : Action) × ((IsTaken words job a × ((fault : LayoutFault) × IsFirstFault (kinds (lines_of job)) fault)) ⊎ ((s : IsLaidOut words job a) × (place_of (needs a) s.found ≡ None)))
+Cause words job statuses.Schema = (a : Action) × ((s : HasSections words job a) × ((at : ℕ) × (why : SchemaWhy) × FaultOf greatest_nesting (text_in job s.before.found.schema) at why))
+Cause words job statuses.Rules = (a : Action) × (((s : HasSchema words job a) × ((at : ℕ) × (why : TextWhy) × IsRulesFault (text_in job s.before.before.found.rules) at why)) ⊎ ((s : HasRulesText words job a) × ((name : List ℕ) × (step : ℕ) × (why : StepWhy) × FirstBadDraft s.before.classes laws s.drafts name step why)))
+Cause words job statuses.Query = ((s : HasRules words job Run) × ((at : ℕ) × (cause : QueryCause) × IsQueryFault (text_at job s.before.before.before.place) at cause)) ⊎ ((s : HasQueryText words job) × IsNoQuery (text_at job s.before.before.before.before.place))
+Cause words job statuses.Database = (s : HasQuery words job) × ((e : DbFault) × IsRefused s.before.before.before.before.classes (text_in job s.before.before.before.before.before.before.found.database) e)
+Cause words job statuses.Ok = HasRules words job Check ⊎ HasDatabase words job
 Cause words job _ = ⊥
 
 -- each answer has its cause; a status without one is the answer to no job

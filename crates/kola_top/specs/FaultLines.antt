@@ -8,6 +8,12 @@ use Rattle.kola_load.specs.declared.schema_fault.SchemaWhy.{SchemaWhy}
 use Rattle.kola_load.specs.CauseNames.{schema_name, db_name}
 use Rattle.oql_syntax.specs.QueryFaults.{QueryCause, CNotInProfile}
 use Rattle.oql_syntax.specs.QueryAnswers.{cause_name}
+use Rattle.kola_base.specs.declared.text_fault.TextWhy.{TextWhy}
+use Rattle.kola_base.specs.CauseNames.{text_name}
+use Rattle.kola_proof.specs.declared.fault.StepWhy.{StepWhy}
+use Rattle.kola_proof.specs.CauseNames.{step_name}
+use Rattle.kola_top.specs.declared.section.Section.{Section}
+use Rattle.kola_top.specs.declared.section.Section.TheVariants as sections
 use Rattle.kola_top.specs.declared.layout.LayoutFault.{LayoutFault}
 use Rattle.kola_top.specs.declared.layout.LayoutWhy.{LayoutWhy}
 use Rattle.kola_top.specs.declared.layout.LayoutWhy.TheVariants.{TextBefore, UnknownSection, SectionOutOfOrder}
@@ -30,9 +36,15 @@ layout_line line cause = codes "fault: layout line " ++ (decimal line ++ (codes 
 abbrev pub layout_fault_line : LayoutFault → List ℕ
 layout_fault_line fault = layout_line fault.line (layout_cause fault.why)
 
+abbrev pub section_name : Section → List ℕ
+section_name sections.Schema = codes "schema"
+section_name sections.Database = codes "database"
+section_name sections.Rules = codes "rules"
+section_name sections.Query = codes "query"
+
 -- a section that is needed would stand in this line, behind the last
-abbrev pub missing_line : ℕ → List ℕ → List ℕ
-missing_line line section = layout_line line (codes "SectionMissing " ++ section)
+abbrev pub missing_line : ℕ → Section → List ℕ
+missing_line line section = layout_line line (codes "SectionMissing " ++ section_name section)
 
 -- ---- fields
 
@@ -51,6 +63,16 @@ number_field n = codes " " ++ decimal n
 -- the place in the schema's text, and the cause
 abbrev pub schema_line : ℕ → SchemaWhy → List ℕ
 schema_line at why = codes "fault: schema at " ++ (decimal at ++ (codes ": " ++ (schema_name why ++ codes "\n")))
+
+-- ---- rules
+
+-- the place in the text of the rules, and the cause
+abbrev pub rules_line : ℕ → TextWhy → List ℕ
+rules_line at why = codes "fault: rules at " ++ (decimal at ++ (codes ": " ++ (text_name why ++ codes "\n")))
+
+-- the name of the rule, the number of the step, counted from 1, or 0, and the cause
+abbrev pub rule_line : List ℕ → ℕ → StepWhy → List ℕ
+rule_line name step why = codes "fault: rule " ++ (name ++ (codes " step " ++ (decimal step ++ (codes ": " ++ (step_name why ++ codes "\n")))))
 
 -- ---- queries
 

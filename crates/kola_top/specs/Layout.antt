@@ -51,6 +51,7 @@ unfoldable pub section_of : List ℕ → Option Section
 section_of header =
     if bytes_eq header (codes "%% schema") then Some Schema
     else if bytes_eq header (codes "%% database") then Some Database
+    else if bytes_eq header (codes "%% rules") then Some Rules
     else if bytes_eq header (codes "%% query") then Some Query
     else None
 

@@ -15,5 +15,6 @@ pub mod Refusals
 pub mod FormReader
 pub mod FormViews
 pub mod ReportViews
+pub mod RulesViews
 pub mod Runs
 pub mod Causes

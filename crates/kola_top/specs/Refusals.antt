@@ -1,5 +1,9 @@
 -- Why a job has no report, in the words of its answer; and what a call on the way to the report says.
 use Rattle.std.specs.Prelude.{◌≡◌, ℕ, Bool, true, false, List, Result, Ok, Err, codes}
+use Rattle.kola_base.specs.declared.text_fault.TextFault.{TextFault}
+use Rattle.kola_base.specs.declared.text_fault.TextFault.TheVariants as text
+use Rattle.kola_proof.specs.declared.fault.FileFault.{FileFault}
+use Rattle.kola_proof.specs.declared.fault.FileFault.TheVariants as file
 use Rattle.kola_load.specs.declared.schema_fault.SchemaFault.{SchemaFault}
 use Rattle.kola_load.specs.declared.schema_fault.SchemaFault.TheVariants as schema
 use Rattle.kola_load.specs.declared.fault.DbFault.{DbFault}
@@ -8,15 +12,23 @@ use Rattle.oql_syntax.specs.QueryAnswers.{why_cause}
 use Rattle.oql_syntax.specs.declared.read.QueryFault.{QueryFault}
 use Rattle.oql_syntax.specs.declared.read.QueryFault.TheVariants as query
 use Rattle.kola_top.specs.declared.refusal.Refusal.{Refusal}
-use Rattle.kola_top.specs.declared.refusal.Refusal.TheVariants.{Layout, NoQuery, Schema, Query, NotBuilt, Database, Memory}
+use Rattle.kola_top.specs.declared.refusal.Refusal.TheVariants.{Layout, Missing, Schema, Rules, Rule, Query, NotBuilt, Database, Memory}
 use Rattle.kola_top.specs.declared.status.Status.{Status}
 use Rattle.kola_top.specs.declared.status.Status.TheVariants as statuses
-use Rattle.kola_top.specs.FaultLines.{layout_fault_line, missing_line, query_fault_line, not_built_line, schema_line, database_line}
+use Rattle.kola_top.specs.FaultLines.{layout_fault_line, missing_line, schema_line, rules_line, rule_line, query_fault_line, not_built_line, database_line}
 use Rattle.kola_top.specs.Staged.{Says, Stage}
 
 abbrev pub of_schema : SchemaFault → Refusal
 of_schema (schema.At at why) = Schema at why
 of_schema schema.Memory = Memory
+
+abbrev pub of_rules : TextFault → Refusal
+of_rules (text.At at why) = Rules at why
+of_rules text.Memory = Memory
+
+abbrev pub of_file : FileFault → Refusal
+of_file (file.Refused name step why) = Rule name step why
+of_file file.Memory = Memory
 
 abbrev pub of_query : QueryFault → Refusal
 of_query (query.At at why) = Query at why
@@ -33,8 +45,10 @@ is_told r = true
 
 abbrev pub status_of : Refusal → Status
 status_of (Layout f) = statuses.Layout
-status_of (NoQuery line) = statuses.Layout
+status_of (Missing line section) = statuses.Layout
 status_of (Schema at why) = statuses.Schema
+status_of (Rules at why) = statuses.Rules
+status_of (Rule name step why) = statuses.Rules
 status_of (Query at why) = statuses.Query
 status_of NotBuilt = statuses.Query
 status_of (Database f) = statuses.Database
@@ -42,8 +56,10 @@ status_of Memory = statuses.Memory
 
 abbrev pub line_of : Refusal → List ℕ
 line_of (Layout f) = layout_fault_line f
-line_of (NoQuery line) = missing_line line (codes "query")
+line_of (Missing line section) = missing_line line section
 line_of (Schema at why) = schema_line at why
+line_of (Rules at why) = rules_line at why
+line_of (Rule name step why) = rule_line name step why
 line_of (Query at why) = query_fault_line at (why_cause why)
 line_of NotBuilt = not_built_line
 line_of (Database f) = database_line f

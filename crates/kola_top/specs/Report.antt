@@ -1,7 +1,24 @@
--- What `run` writes: nine lines, each a name, a colon, a blank and what it says.
-use Rattle.std.specs.Prelude.{ℕ, Bool, true, false, List, ◌++◌, codes}
+-- What `check` and `run` write where nothing is refused.
+use Rattle.std.specs.Prelude.{ℕ, Bool, true, false, List, ◌++◌, length, codes}
+use Rattle.std.specs.List.{flat_map}
 use Rattle.std.specs.Fmt.{decimal}
 
+-- a name, a colon, a blank and what it says
+abbrev pub report_line : List ℕ → List ℕ → List ℕ
+report_line name says = name ++ (codes ": " ++ (says ++ codes "\n"))
+
+-- ---- check
+
+abbrev pub accepted_line : List ℕ → List ℕ
+accepted_line name = codes "rule " ++ (name ++ codes " ok\n")
+
+-- a line for each rule, in their order, and the numbers of the rules and of the blocks
+abbrev pub check_text : List (List ℕ) → ℕ → List ℕ
+check_text names blocks = flat_map accepted_line names ++ (report_line (codes "rules") (decimal (length names)) ++ report_line (codes "blocks") (decimal blocks))
+
+-- ---- run
+
+-- what each of nine lines says
 pub record Report : Type 0 where
   pub query : List ℕ
   pub block : List ℕ
@@ -16,9 +33,6 @@ pub record Report : Type 0 where
 abbrev pub truth_text : Bool → List ℕ
 truth_text true = codes "true"
 truth_text false = codes "false"
-
-abbrev pub report_line : List ℕ → List ℕ → List ℕ
-report_line name says = name ++ (codes ": " ++ (says ++ codes "\n"))
 
 abbrev pub report_text : Report → List ℕ
 report_text r =

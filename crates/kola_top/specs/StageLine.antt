@@ -1,9 +1,11 @@
 -- The answer to a job as a line of stages. Private clauses cite it: what is promised stands in Answer.antt, a case for each.
-use Rattle.std.specs.Prelude.{◌≡◌, ℕ, ◌+◌, ◌<◌, ◌≤◌, List, length, Some, None, Ok, codes}
+use Rattle.std.specs.Prelude.{◌≡◌, ℕ, ◌+◌, ◌<◌, ◌≤◌, List, length, Some, None, Ok}
+use Rattle.kola_base.specs.declared.text_fault.TextWhy.{TextWhy}
 use Rattle.kola_top.specs.declared.section.Span.{Span}
 use Rattle.kola_top.specs.declared.section.Sections.{Sections}
 use Rattle.kola_top.specs.declared.layout.LayoutFault.{LayoutFault}
 use Rattle.kola_top.specs.declared.words.Action.{Action}
+use Rattle.kola_top.specs.declared.words.Action.TheVariants.{Check, Run}
 use Rattle.kola_top.specs.declared.status.Status.{Status}
 use Rattle.kola_top.specs.declared.status.Status.TheVariants as statuses
 use Rattle.kola_values.specs.Databases.{Classes, Objects}
@@ -13,16 +15,20 @@ use Rattle.kola_load.specs.Loaded.{Reads}
 use Rattle.kola_load.specs.SchemaAccepted.{greatest_nesting, Writes, FaultOf}
 use Rattle.kola_load.specs.declared.schema_fault.SchemaWhy.{SchemaWhy}
 use Rattle.kola_load.specs.declared.fault.DbFault.{DbFault}
-use Rattle.kola_top.specs.Words.{action_of}
-use Rattle.kola_top.specs.Layout.{lines_of, kinds, AreSections, IsFirstFault}
+use Rattle.kola_rule.specs.Rules.{DraftTree}
+use Rattle.kola_laws.specs.Laws.{laws}
+use Rattle.kola_proof.specs.Drafts.{AreValid, FirstBadDraft}
+use Rattle.kola_proof.specs.declared.fault.StepWhy.{StepWhy}
+use Rattle.kola_top.specs.Words.{action_of, needs}
+use Rattle.kola_top.specs.Layout.{lines_of, kinds, place_of, AreSections, IsFirstFault}
 use Rattle.kola_top.specs.SelectForm.{SelectForm}
 use Rattle.oql_syntax.specs.QueryAnswers.{SpellsQuery, IsQueryFault}
 use Rattle.oql_syntax.specs.QueryFaults.{QueryCause}
 use Rattle.oql_tree.specs.QueryTrees.{QueryTree}
 use Rattle.kola_top.specs.Report.{report_text}
-use Rattle.kola_top.specs.FaultLines.{usage_line, too_long_line, layout_fault_line, missing_line, query_fault_line, not_built_line, schema_line, database_line}
-use Rattle.kola_top.specs.Stages.{greatest_length, text_at, text_in, IsQuery, IsNoQuery}
-use Rattle.kola_top.specs.Answer.{IsRefused, report_of_form}
+use Rattle.kola_top.specs.FaultLines.{usage_line, too_long_line, layout_fault_line, missing_line, schema_line, rules_line, rule_line, query_fault_line, not_built_line, database_line}
+use Rattle.kola_top.specs.Stages.{greatest_length, text_at, text_in, WritesRules, IsRulesFault, IsQuery, IsNoQuery}
+use Rattle.kola_top.specs.Answer.{IsRefused, report_of_check, report_of_form}
 use Rattle.kola_top.specs.Staged.{Says, Stage, Then}
 
 abbrev pub at_words : List (List ℕ) → Stage (Unit {0}) Action
@@ -34,11 +40,17 @@ at_length job = record { refuses = λ _. greatest_length < length job; accepts =
 abbrev pub at_layout : List ℕ → Stage LayoutFault Sections
 at_layout job = record { refuses = IsFirstFault (kinds (lines_of job)); accepts = AreSections job; status = λ _. statuses.Layout; bytes = layout_fault_line }
 
-abbrev pub at_place : Sections → Stage (Unit {0}) Span
-at_place found = record { refuses = λ _. found.query ≡ None; accepts = λ p. found.query ≡ Some p; status = λ _. statuses.Layout; bytes = λ _. missing_line (found.lines + 1) (codes "query") }
+abbrev pub at_place : Action → Sections → Stage (Unit {0}) Span
+at_place a found = record { refuses = λ _. place_of (needs a) found ≡ None; accepts = λ p. place_of (needs a) found ≡ Some p; status = λ _. statuses.Layout; bytes = λ _. missing_line (found.lines + 1) (needs a) }
 
 abbrev pub at_schema : List ℕ → Stage (ℕ × SchemaWhy) Classes
 at_schema text = record { refuses = λ f. FaultOf greatest_nesting text f.0 f.1; accepts = Writes greatest_nesting text; status = λ _. statuses.Schema; bytes = λ f. schema_line f.0 f.1 }
+
+abbrev pub at_rules_text : List ℕ → Stage (ℕ × TextWhy) (List DraftTree)
+at_rules_text text = record { refuses = λ f. IsRulesFault text f.0 f.1; accepts = WritesRules text; status = λ _. statuses.Rules; bytes = λ f. rules_line f.0 f.1 }
+
+abbrev pub at_rules : Classes → List DraftTree → Stage (List ℕ × ℕ × StepWhy) (Unit {0})
+at_rules S ds = record { refuses = λ f. FirstBadDraft S laws ds f.0 f.1 f.2; accepts = λ _. AreValid S laws ds; status = λ _. statuses.Rules; bytes = λ f. rule_line f.0 f.1 f.2 }
 
 abbrev pub at_query_text : List ℕ → Stage (ℕ × QueryCause) (Unit {0})
 at_query_text text = record { refuses = λ f. IsQueryFault text f.0 f.1; accepts = λ _. (q : QueryTree) × SpellsQuery text q; status = λ _. statuses.Query; bytes = λ f. query_fault_line f.0 f.1 }
@@ -54,12 +66,13 @@ at_database S text = record {
   bytes = database_line;
 }
 
-pub data Reported (f : SelectForm) : Status → List ℕ → Type 0 where
-  reported : Reported f statuses.Ok (report_text (report_of_form f))
+-- the report
+pub data Reported (text : List ℕ) : Status → List ℕ → Type 0 where
+  reported : Reported text statuses.Ok text
 
 -- a job of no more than the greatest length on its way to the report, a line for each stage, the last first
 abbrev pub FromDatabase : List ℕ → Sections → Classes → SelectForm → Says
-FromDatabase job found S f = Then (at_database S (text_in job found.database)) (λ _. Reported f)
+FromDatabase job found S f = Then (at_database S (text_in job found.database)) (λ _. Reported (report_text (report_of_form f)))
 
 abbrev pub FromQuery : List ℕ → Sections → Span → Classes → Says
 FromQuery job found p S = Then (at_query (text_at job p)) (FromDatabase job found S)
@@ -67,14 +80,25 @@ FromQuery job found p S = Then (at_query (text_at job p)) (FromDatabase job foun
 abbrev pub FromQueryText : List ℕ → Sections → Span → Classes → Says
 FromQueryText job found p S = Then (at_query_text (text_at job p)) (λ _. FromQuery job found p S)
 
-abbrev pub FromSchema : List ℕ → Sections → Span → Says
-FromSchema job found p = Then (at_schema (text_in job found.schema)) (FromQueryText job found p)
+-- behind the rules each action goes its way
+abbrev pub BehindRules : Action → List ℕ → Sections → Span → Classes → List DraftTree → Says
+BehindRules Check job found p S ds = Reported (report_of_check ds)
+BehindRules Run job found p S ds = FromQueryText job found p S
 
-abbrev pub FromPlace : List ℕ → Sections → Says
-FromPlace job found = Then (at_place found) (FromSchema job found)
+abbrev pub FromRules : Action → List ℕ → Sections → Span → Classes → List DraftTree → Says
+FromRules a job found p S ds = Then (at_rules S ds) (λ _. BehindRules a job found p S ds)
 
-abbrev pub OnItsWay : List ℕ → Says
-OnItsWay job = Then (at_layout job) (FromPlace job)
+abbrev pub FromRulesText : Action → List ℕ → Sections → Span → Classes → Says
+FromRulesText a job found p S = Then (at_rules_text (text_in job found.rules)) (FromRules a job found p S)
+
+abbrev pub FromSchema : Action → List ℕ → Sections → Span → Says
+FromSchema a job found p = Then (at_schema (text_in job found.schema)) (FromRulesText a job found p)
+
+abbrev pub FromPlace : Action → List ℕ → Sections → Says
+FromPlace a job found = Then (at_place a found) (FromSchema a job found)
+
+abbrev pub OnItsWay : Action → List ℕ → Says
+OnItsWay a job = Then (at_layout job) (FromPlace a job)
 
 abbrev pub AllTheWay : List (List ℕ) → List ℕ → Says
-AllTheWay words job = Then (at_words words) (λ _. Then (at_length job) (λ _. OnItsWay job))
+AllTheWay words job = Then (at_words words) (λ a. Then (at_length job) (λ _. OnItsWay a job))

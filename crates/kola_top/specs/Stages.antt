@@ -3,11 +3,14 @@ use Rattle.std.specs.Prelude.{◌≡◌, ℕ, ◌≤◌, Option, List, [], lengt
 use Rattle.kola_top.specs.declared.section.Span.{Span}
 use Rattle.kola_top.specs.declared.section.Sections.{Sections}
 use Rattle.kola_top.specs.declared.words.Action.{Action}
-use Rattle.kola_top.specs.Words.{action_of}
-use Rattle.kola_top.specs.Layout.{AreSections}
+use Rattle.kola_top.specs.declared.words.Action.TheVariants.{Run}
+use Rattle.kola_top.specs.Words.{action_of, needs}
+use Rattle.kola_top.specs.Layout.{AreSections, place_of}
 use Rattle.kola_base.specs.declared.lex.Token.{Token}
 use Rattle.kola_base.specs.Tokens.{AreTokens}
 use Rattle.kola_base.specs.Lexemes.{lexemes}
+use Rattle.kola_base.specs.Spelled.{Spells, FaultOfText}
+use Rattle.kola_base.specs.declared.text_fault.TextWhy.{TextWhy}
 use Rattle.kola_top.specs.SelectForm.{SelectForm, Says}
 use Rattle.oql_syntax.specs.QueryAnswers.{SpellsQuery}
 use Rattle.oql_tree.specs.QueryTrees.{QueryTree}
@@ -16,6 +19,11 @@ use Rattle.serde_json.specs.Data.{Data}
 use Rattle.kola_load.specs.Loading.{db_of}
 use Rattle.kola_load.specs.Loaded.{Reads}
 use Rattle.kola_load.specs.SchemaAccepted.{greatest_nesting, Writes}
+use Rattle.kola_rule.specs.Rules.{DraftTree}
+use Rattle.kola_laws.specs.Laws.{laws}
+use Rattle.coko_text.specs.RuleGrammar.{FileText}
+use Rattle.coko_text.specs.Limits.{greatest_nesting as greatest_type_nesting}
+use Rattle.kola_proof.specs.Drafts.{AreValid}
 
 -- the greatest length of a job, in bytes
 abbrev pub greatest_length : ℕ
@@ -29,6 +37,14 @@ text_at job p = slice_range job p.from p.to
 abbrev pub text_in : List ℕ → Option Span → List ℕ
 text_in job None = []
 text_in job (Some p) = text_at job p
+
+-- the text writes these rules with their proofs
+abbrev pub WritesRules : List ℕ → List DraftTree → Type 0
+WritesRules text ds = Spells (FileText greatest_type_nesting) text ds
+
+-- the text writes no rules, and this is its first fault
+abbrev pub IsRulesFault : List ℕ → ℕ → TextWhy → Type 0
+IsRulesFault text at why = FaultOfText FileText greatest_type_nesting text at why
 
 -- the text is a query of the form: its tokens say one
 pub record IsQuery (text : List ℕ) (f : SelectForm) : Type 0 where
@@ -45,46 +61,58 @@ abbrev pub IsQueryReading : List ℕ → Option SelectForm → Type 0
 IsQueryReading text (Some f) = IsQuery text f
 IsQueryReading text None = IsNoQuery text
 
--- the words are a command, and the job is no longer than it may be
-pub record IsTaken (words : List (List ℕ)) (job : List ℕ) : Type 0 where
-  pub action : Action
-  pub command : action_of words ≡ Some action
+-- ---- the stages
+
+-- the words ask for the action, and the job is no longer than it may be
+pub record IsTaken (words : List (List ℕ)) (job : List ℕ) (a : Action) : Type 0 where
+  pub command : action_of words ≡ Some a
   pub is_short : length job ≤ greatest_length
 
 -- no line is faulty, and these are the places of the sections
-pub record IsLaidOut (words : List (List ℕ)) (job : List ℕ) : Type 0 where
-  pub before : IsTaken words job
+pub record IsLaidOut (words : List (List ℕ)) (job : List ℕ) (a : Action) : Type 0 where
+  pub before : IsTaken words job a
   pub found : Sections
   pub sections : AreSections job found
 
--- the section of the query, which is needed, is there
-pub record HasSections (words : List (List ℕ)) (job : List ℕ) : Type 0 where
-  pub before : IsLaidOut words job
+-- the section that the action needs is there
+pub record HasSections (words : List (List ℕ)) (job : List ℕ) (a : Action) : Type 0 where
+  pub before : IsLaidOut words job a
   pub place : Span
-  pub query : before.found.query ≡ Some place
+  pub needed : place_of (needs a) before.found ≡ Some place
 
 -- the schema's text writes these classes
-pub record HasSchema (words : List (List ℕ)) (job : List ℕ) : Type 0 where
-  pub before : HasSections words job
+pub record HasSchema (words : List (List ℕ)) (job : List ℕ) (a : Action) : Type 0 where
+  pub before : HasSections words job a
   pub classes : Classes
   pub writes : Writes greatest_nesting (text_in job before.before.found.schema) classes
 
+-- the text of the rules writes these drafts
+pub record HasRulesText (words : List (List ℕ)) (job : List ℕ) (a : Action) : Type 0 where
+  pub before : HasSchema words job a
+  pub drafts : List DraftTree
+  pub writes : WritesRules (text_in job before.before.before.found.rules) drafts
+
+-- each draft is valid by the laws and the rules before it
+pub record HasRules (words : List (List ℕ)) (job : List ℕ) (a : Action) : Type 0 where
+  pub before : HasRulesText words job a
+  pub valid : AreValid before.before.classes laws before.drafts
+
 -- the query's text spells this query
 pub record HasQueryText (words : List (List ℕ)) (job : List ℕ) : Type 0 where
-  pub before : HasSchema words job
+  pub before : HasRules words job Run
   pub query : QueryTree
-  pub spells : SpellsQuery (text_at job before.before.place) query
+  pub spells : SpellsQuery (text_at job before.before.before.before.place) query
 
 -- the query's text is this query of the form
 pub record HasQuery (words : List (List ℕ)) (job : List ℕ) : Type 0 where
   pub before : HasQueryText words job
   pub form : SelectForm
-  pub is : IsQuery (text_at job before.before.before.place) form
+  pub is : IsQuery (text_at job before.before.before.before.before.place) form
 
 -- the database's text reads as this value, which writes these objects
 pub record HasDatabase (words : List (List ℕ)) (job : List ℕ) : Type 0 where
   pub before : HasQuery words job
   pub value : Data
   pub objects : Objects
-  pub reads : Reads (text_in job before.before.before.before.before.found.database) value
-  pub writes : db_of before.before.before.classes value ≡ Ok objects
+  pub reads : Reads (text_in job before.before.before.before.before.before.before.found.database) value
+  pub writes : db_of before.before.before.before.before.classes value ≡ Ok objects

@@ -7,7 +7,7 @@ ghost use Rattle.kola_term.specs.Terms.{CSet, FId, FSnd, FComp, FPair, FK, FIter
 ghost use Rattle.kola_text.specs.Spelling.{fun_spelling};
 ghost use Rattle.kola_top.specs.Stages.{text_in, greatest_length};
 ghost use Rattle.kola_top.specs.Answer.{Answer, is_memory, report_of_form, unchanged_report};
-ghost use Rattle.kola_top.specs.StageLine.{at_place, at_schema, at_query_text, at_query, at_database, OnItsWay};
+ghost use Rattle.kola_top.specs.StageLine.{at_place, at_schema, at_query_text, at_query, at_database, FromQueryText, OnItsWay};
 ghost use Rattle.kola_top.specs.Refusals.{Passes, Replies, is_told, status_of, line_of};
 ghost use Rattle.kola_top.specs.FormViews.{form_view};
 ghost use Rattle.kola_top.specs.Report.{report_text};
@@ -20,6 +20,7 @@ use crate::layout::sections;
 use crate::output::{Report, report_text};
 use crate::query::query_of;
 use crate::refusal::Refusal;
+use crate::rules::{accept, check_report, drafts_of};
 use crate::section::{Sections, Span};
 use crate::select::{literals_of, members_below, translate};
 use crate::select_laws::{select_is_evaluated_rightly, select_is_translated_rightly};
@@ -113,14 +114,15 @@ fn text_in<'a>(job: &'a [u8], place: Option<Span>) -> &'a [u8]
     }
 }
 
-/// Where the query's text lies.
-fn query_place(found: &Sections) -> Result<Span, Refusal>
+/// Where the text of the section lies that an action needs.
+fn needed_place(action: Action, found: &Sections) -> Result<Span, Refusal>
     requires { found.now.lines < u64.MAX }
-    ensures { Passes (at_place found.now) (λ p. p) result }
+    ensures { Passes (at_place action found.now) (λ p. p) result }
 {
-    match found.query {
+    let section = action.needs();
+    match found.place_of(section) {
         Some(place) => Ok(place),
-        None => Err(Refusal::NoQuery(found.lines + 1)),
+        None => Err(Refusal::Missing(found.lines + 1, section)),
     }
 }
 
@@ -169,20 +171,40 @@ fn database_of(alloc: Global, schema: &Schema, text: &[u8]) -> Result<(), Refusa
     }
 }
 
-/// The report on a job of no more than the greatest length, or the first refusal on its way: a line for each stage.
-fn report_of(alloc: Global, job: &[u8]) -> Result<Vec<u8>, Refusal>
-    requires { length job.now ≤ greatest_length }
-    ensures { Replies (λ v. v.items) (OnItsWay job.now) result }
+/// What `run` reports on a job with a query at the place, or the first refusal behind the rules: a line for each stage.
+fn run_report(
+    alloc: Global,
+    job: &[u8],
+    found: &Sections,
+    place: Span,
+    schema: &Schema,
+) -> Result<Vec<u8>, Refusal>
+    requires place { (place.from ≤ place.to) × (place.to ≤ length job.now) }
+    requires database { IfSome found.now.database (λ p. (p.from ≤ p.to) × (p.to ≤ length job.now)) }
+    ensures { Replies (λ v. v.items) (FromQueryText job.now found.now place schema.now) result }
 {
-    let found = sections(job)?;
-    let place = query_place(&found)?;
-    let schema = schema_of(alloc, text_in(job, found.schema))?;
     let text = text_in(job, Some(place));
     read_whole_query(alloc, text)?;
     let form = form_of(alloc, text)?;
-    database_of(alloc, &schema, text_in(job, found.database))?;
+    database_of(alloc, schema, text_in(job, found.database))?;
     let bytes = report_on(alloc, &form)?;
     Ok(bytes)
+}
+
+/// The report on a job of no more than the greatest length, or the first refusal on its way: a line for each stage.
+fn report_of(alloc: Global, action: Action, job: &[u8]) -> Result<Vec<u8>, Refusal>
+    requires { length job.now ≤ greatest_length }
+    ensures { Replies (λ v. v.items) (OnItsWay action job.now) result }
+{
+    let found = sections(job)?;
+    let place = needed_place(action, &found)?;
+    let schema = schema_of(alloc, text_in(job, found.schema))?;
+    let drafts = drafts_of(alloc, text_in(job, found.rules))?;
+    let book = accept(alloc, schema, drafts)?;
+    match action {
+        Action::Check => Ok(check_report(alloc, book.accepted.rules(), book.laws)?),
+        Action::Run => run_report(alloc, job, &found, place, book.accepted.schema()),
+    }
 }
 
 /// The answer of a refusal that is told by a line.
@@ -205,8 +227,7 @@ pub fn answer_to(alloc: Global, action: Action, job: &[u8]) -> Result<Reply, Mem
         Answer words job.now reply.status reply.bytes.items) }
     ensures written { IfOk result (λ reply. IsTrue (is_written reply.status)) }
 {
-    let Action::Run = action;
-    match report_of(alloc, job) {
+    match report_of(alloc, action, job) {
         Ok(bytes) => Ok(Reply {
             status: Status::Ok,
             bytes,

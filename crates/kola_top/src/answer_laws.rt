@@ -5,16 +5,18 @@ ghost use Rattle.kola_top.specs.Answer.{Answer};
 ghost use Rattle.kola_top.specs.Causes.{AnswersHaveCauses};
 ghost use Rattle.kola_top.specs.declared.status.Status.{Status};
 
-/// Every list of words and every job have exactly one answer.
+/// Every list of words and every job have exactly one answer: it is not so that they have none, and they have no two.
 pub fn a_job_has_exactly_one_answer()
-    ensures some { (words : List (List ℕ)) (job : List ℕ) → (s : Status) × ((b : List ℕ) × Answer words job s b) }
+    ensures some { (words : List (List ℕ)) (job : List ℕ) →
+        ((s : Status) (b : List ℕ) → Answer words job s b → ⊥) → ⊥ }
     ensures one { (words : List (List ℕ)) (job : List ℕ) (s t : Status) (b c : List ℕ) →
         Answer words job s b → Answer words job t c → (s ≡ t) × (b ≡ c) }
 {}
 
 /// Each answer to the words and a job has the cause that its status names, and no earlier one: `Usage` words that are no command, `TooLong`
-/// a job that is longer than it may be, `Layout` a faulty line or no query's section, `Schema` and `Database` a text that is refused,
-/// `Query` a text that spells no query, or a query that is none of the form.
+/// a job that is longer than it may be, `Layout` a faulty line or a section that the action needs and that is not there, `Schema` and
+/// `Database` a text that is refused, `Rules` a text that writes no rules, or a rule that is refused, `Query` a text that spells no
+/// query, or a query that is none of the form; and `Ok` a job of which all is accepted that the action asks for.
 pub fn answers_have_causes()
     ensures { AnswersHaveCauses }
 {}

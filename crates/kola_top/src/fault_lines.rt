@@ -1,15 +1,17 @@
-//! The lines of the faults of schemas, queries and databases.
+//! The lines of the faults of schemas, rules, queries and databases.
 
 ghost use Rattle.std.specs.Prelude.{◌≡◌, ◌++◌, IfOk, OnOk};
 ghost use Rattle.std.specs.String.{string_bytes};
 ghost use Rattle.oql_syntax.specs.QueryAnswers.{why_cause};
 ghost use Rattle.oql_syntax.specs.QueryFaults.{CNotInProfile};
-ghost use Rattle.kola_top.specs.FaultLines.{schema_line, query_fault_line, name_field, text_field, number_field, at_number, database_fields, database_line};
+ghost use Rattle.kola_top.specs.FaultLines.{schema_line, rules_line, rule_line, query_fault_line, name_field, text_field, number_field, at_number, database_fields, database_line};
 
 use crate::output::query_line;
+use kola_base::TextWhy;
 use kola_canon::{push_bytes, push_number, push_text};
 use kola_core::{Memory, Name, Text};
 use kola_load::{DbFault, SchemaWhy};
+use kola_proof::StepWhy;
 use oql_syntax::QueryWhy;
 use std::alloc::{AllocError, Global};
 
@@ -19,6 +21,28 @@ pub fn schema_line(alloc: Global, at: usize, why: SchemaWhy) -> Result<String, A
 {
     let cause = why.name();
     format!(in alloc; "fault: schema at {at}: {cause}\n")
+}
+
+/// The line of a fault of the text of the rules, at a place in it.
+pub fn rules_line(alloc: Global, at: usize, why: TextWhy) -> Result<String, AllocError>
+    ensures { IfOk result (λ s. string_bytes s ≡ rules_line at why) }
+{
+    let cause = why.name();
+    format!(in alloc; "fault: rules at {at}: {cause}\n")
+}
+
+/// The line of a rule that is refused, at a step of its proof.
+pub fn rule_line(
+    alloc: Global,
+    name: &Name,
+    step: usize,
+    why: StepWhy,
+) -> Result<String, AllocError>
+    ensures { IfOk result (λ s. string_bytes s ≡ rule_line name.now step why) }
+{
+    let name = name.as_text();
+    let cause = why.name();
+    format!(in alloc; "fault: rule {name} step {step}: {cause}\n")
 }
 
 /// The line of a query's text that names a word outside the profile.

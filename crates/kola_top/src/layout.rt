@@ -118,7 +118,7 @@ impl Progress {
 ///
 /// A job is bytes in lines that end with a line feed or with the end of the job; one carriage return before the line
 /// feed belongs to the ending. A line that starts with `%%` is a header and, less the spaces and tabs at its end, is
-/// `%% query`. Before the first header only lines of spaces and tabs stand. A section's text begins behind its header
+/// `%% schema`, `%% database`, `%% rules` or `%% query`. Before the first header only lines of spaces and tabs stand. A section's text begins behind its header
 /// line, ends before the next header or with the job, and keeps every byte. Takes no memory.
 pub fn sections(job: &[u8]) -> Result<Sections, LayoutFault>
     ensures accepted { IsOk result ↔ IsFaultless (kinds (lines_of job.now)) }

@@ -11,6 +11,7 @@ mod lines;
 mod output;
 mod query;
 mod refusal;
+mod rules;
 mod run;
 mod section;
 mod select;

@@ -8,6 +8,7 @@ ghost use Rattle.kola_top.specs.FaultLines.{usage_line, too_long_line, layout_ca
 ghost use Rattle.kola_top.specs.ReportViews.{report_view};
 
 use crate::layout::{LayoutFault, LayoutWhy};
+use crate::section::Section;
 use std::alloc::{AllocError, Global};
 
 /// What is written where the words are no command.
@@ -58,9 +59,10 @@ pub fn layout_fault_line(alloc: Global, fault: LayoutFault) -> Result<String, Al
 }
 
 /// The line of a section that is missing, and would stand in this line of the job.
-pub fn missing_line(alloc: Global, line: u64, section: &str) -> Result<String, AllocError>
-    ensures { IfOk result (λ s. string_bytes s ≡ missing_line line section.now) }
+pub fn missing_line(alloc: Global, line: u64, section: Section) -> Result<String, AllocError>
+    ensures { IfOk result (λ s. string_bytes s ≡ missing_line line section) }
 {
+    let section = section.name();
     format!(in alloc; "fault: layout line {line}: SectionMissing {section}\n")
 }
 
@@ -80,7 +82,13 @@ fn push_line(out: &mut Vec<u8>, name: &[u8], says: &[u8]) -> Result<(), AllocErr
     out.extend_from_slice(b"\n")
 }
 
-fn push_count(alloc: Global, out: &mut Vec<u8>, name: &[u8], count: u64) -> Result<(), AllocError>
+/// Adds a line that says a number.
+pub fn push_count(
+    alloc: Global,
+    out: &mut Vec<u8>,
+    name: &[u8],
+    count: u64,
+) -> Result<(), AllocError>
     ensures { OnOk result (out.new.items ≡ out.old.items ++ report_line name.now (decimal count)) }
 {
     let text = format!(in alloc; "{count}")?;

@@ -4,12 +4,15 @@ ghost use Rattle.std.specs.Prelude.{◌≡◌, true, IfOk};
 ghost use Rattle.kola_top.specs.FaultLines.{not_built_line};
 ghost use Rattle.kola_top.specs.Refusals.{is_told, status_of, line_of};
 
-use crate::fault_lines::{database_line, query_fault_line, schema_line};
+use crate::fault_lines::{database_line, query_fault_line, rule_line, rules_line, schema_line};
 use crate::layout::LayoutFault;
 use crate::output::{layout_fault_line, missing_line, query_line};
+use crate::section::Section;
 use crate::status::Status;
-use kola_core::Memory;
+use kola_base::{TextFault, TextWhy};
+use kola_core::{Memory, Name};
 use kola_load::{DbFault, SchemaFault, SchemaWhy};
+use kola_proof::{FileFault, StepWhy};
 use oql_syntax::{QueryFault, QueryWhy};
 use std::alloc::{AllocError, AllocFailed, Global};
 
@@ -18,10 +21,14 @@ use std::alloc::{AllocError, AllocFailed, Global};
 pub enum Refusal {
     /// A line breaks the layout.
     Layout(LayoutFault),
-    /// The section of the query, which is needed, would stand in this line, behind the last.
-    NoQuery(u64),
+    /// A section that is needed would stand in this line, behind the last.
+    Missing(u64, Section),
     /// The schema's text is refused, at a place in it.
     Schema(usize, SchemaWhy),
+    /// The text of the rules is refused, at a place in it.
+    Rules(usize, TextWhy),
+    /// The rule of the name is refused, at a step of its proof.
+    Rule(Name, usize, StepWhy),
     /// The query's text is refused, at a place in it.
     Query(usize, QueryWhy),
     /// The query is none of those that can be answered.
@@ -53,6 +60,34 @@ impl From<SchemaFault> for Refusal {
         match fault {
             SchemaFault::At { at, why } => Refusal::Schema(at, why),
             SchemaFault::Memory => Refusal::Memory,
+        }
+    }
+}
+
+impl From<TextFault> for Refusal {
+    ghost use Rattle.std.specs.Prelude.{◌≡◌};
+    ghost use Rattle.kola_top.specs.Refusals.{of_rules};
+
+    ghost from_gives = { λ fault r. r ≡ of_rules fault };
+
+    fn from(fault: TextFault) -> Refusal {
+        match fault {
+            TextFault::At { at, why } => Refusal::Rules(at, why),
+            TextFault::Memory => Refusal::Memory,
+        }
+    }
+}
+
+impl From<FileFault> for Refusal {
+    ghost use Rattle.std.specs.Prelude.{◌≡◌};
+    ghost use Rattle.kola_top.specs.Refusals.{of_file};
+
+    ghost from_gives = { λ fault r. r ≡ of_file fault };
+
+    fn from(fault: FileFault) -> Refusal {
+        match fault {
+            FileFault::Refused { name, step, why } => Refusal::Rule(name, step, why),
+            FileFault::Memory => Refusal::Memory,
         }
     }
 }
@@ -99,8 +134,9 @@ impl Refusal {
         ensures { result ≡ status_of self.now }
     {
         match self {
-            Refusal::Layout(_) | Refusal::NoQuery(_) => Status::Layout,
+            Refusal::Layout(_) | Refusal::Missing(_, _) => Status::Layout,
             Refusal::Schema(_, _) => Status::Schema,
+            Refusal::Rules(_, _) | Refusal::Rule(_, _, _) => Status::Rules,
             Refusal::Query(_, _) | Refusal::NotBuilt => Status::Query,
             Refusal::Database(_) => Status::Database,
             Refusal::Memory => Status::Memory,
@@ -114,8 +150,14 @@ impl Refusal {
     {
         match self {
             Refusal::Layout(fault) => Ok(layout_fault_line(alloc, *fault)?.into_bytes()),
-            Refusal::NoQuery(line) => Ok(missing_line(alloc, *line, "query")?.into_bytes()),
+            Refusal::Missing(line, section) => {
+                Ok(missing_line(alloc, *line, *section)?.into_bytes())
+            }
             Refusal::Schema(at, why) => Ok(schema_line(alloc, *at, *why)?.into_bytes()),
+            Refusal::Rules(at, why) => Ok(rules_line(alloc, *at, *why)?.into_bytes()),
+            Refusal::Rule(name, step, why) => {
+                Ok(rule_line(alloc, name, *step, *why)?.into_bytes())
+            }
             Refusal::Query(at, why) => Ok(query_fault_line(alloc, *at, why)?.into_bytes()),
             Refusal::NotBuilt => Ok(query_line(alloc, 0, "NotBuilt")?.into_bytes()),
             Refusal::Database(fault) => database_line(alloc, fault),

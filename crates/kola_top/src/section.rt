@@ -1,7 +1,8 @@
 //! The sections of a job: their order, the headers that name them, and the places of their texts.
 
 ghost use Rattle.std.specs.Prelude.{◌≡◌};
-ghost use Rattle.kola_top.specs.Layout.{order, section_of};
+ghost use Rattle.kola_top.specs.Layout.{order, section_of, place_of};
+ghost use Rattle.kola_top.specs.FaultLines.{section_name};
 ghost use Rattle.kola_top.specs.Scan.{put};
 
 /// A section of a job. The variants stand in the order of the sections.
@@ -20,6 +21,18 @@ impl Section {
     {
         self as u8
     }
+
+    /// The section's name, as it is printed.
+    pub fn name(self) -> &'static str
+        ensures { result.now ≡ section_name self }
+    {
+        match self {
+            Section::Schema => "schema",
+            Section::Database => "database",
+            Section::Rules => "rules",
+            Section::Query => "query",
+        }
+    }
 }
 
 /// The section that a header names, which has no blanks at its end.
@@ -30,6 +43,7 @@ pub fn section_of(header: &[u8]) -> Option<Section>
     match header {
         _ if header == b"%% schema".as_slice() => Some(Section::Schema),
         _ if header == b"%% database".as_slice() => Some(Section::Database),
+        _ if header == b"%% rules".as_slice() => Some(Section::Rules),
         _ if header == b"%% query".as_slice() => Some(Section::Query),
         _ => None,
     }
@@ -53,6 +67,18 @@ pub struct Sections {
 }
 
 impl Sections {
+    /// The place of a section's text.
+    pub fn place_of(&self, section: Section) -> Option<Span>
+        ensures { result ≡ place_of section self.now }
+    {
+        match section {
+            Section::Schema => self.schema,
+            Section::Database => self.database,
+            Section::Rules => self.rules,
+            Section::Query => self.query,
+        }
+    }
+
     /// These places with the section at the span.
     pub fn put(self, section: Section, span: Span) -> Sections
         ensures { result ≡ put section span self }

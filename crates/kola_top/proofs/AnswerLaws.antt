@@ -6,6 +6,7 @@ use Rattle.kola_top.specs.declared.words.Action.{Action}
 use Rattle.kola_top.specs.declared.status.Status.{Status}
 use Rattle.kola_base.specs.Lexemes.{lexemes}
 use Rattle.kola_base.proofs.OneCut.{one_list}
+use Rattle.kola_values.specs.Types.{TypeTree}
 use Rattle.kola_values.specs.Databases.{Classes, Objects}
 use Rattle.serde_json.specs.Data.{Data}
 use Rattle.kola_load.specs.Loading.{db_of}
@@ -18,21 +19,24 @@ use Rattle.kola_base.specs.declared.text_fault.TextWhy.{TextWhy}
 use Rattle.kola_rule.specs.Rules.{DraftTree}
 use Rattle.kola_laws.specs.Laws.{laws}
 use Rattle.kola_proof.specs.declared.fault.StepWhy.{StepWhy}
-use Rattle.kola_top.specs.declared.words.Action.TheVariants.{Check, Run}
+use Rattle.kola_top.specs.declared.words.Action.TheVariants.{Check, Translate, Run}
+use Rattle.kola_top.specs.declared.section.Section.TheVariants.{Rules, Query}
+use Rattle.oql_tree.specs.QueryTrees.{QueryTree}
+use Rattle.oql_check.proofs.OneFault.{one_type, not_both as typed_or_at_fault, one_fault as one_type_fault}
 use Rattle.kola_top.specs.Words.{action_of, needs}
 use Rattle.kola_top.specs.Layout.{place_of}
 use Rattle.kola_top.specs.SelectForm.{SelectForm, Says}
-use Rattle.kola_top.specs.FaultLines.{layout_fault_line, schema_line, rules_line, rule_line, query_fault_line, database_line}
+use Rattle.kola_top.specs.FaultLines.{layout_fault_line, schema_line, rules_line, rule_line, query_fault_line, query_type_line, database_line}
 use Rattle.kola_top.specs.Report.{report_text}
 use Rattle.kola_top.specs.Runs.{is_written}
-use Rattle.kola_top.specs.Stages.{text_at, text_in, IsQuery, IsTaken, IsLaidOut, HasSections, HasSchema, HasRulesText, HasRules, HasQueryText, HasQuery}
-use Rattle.kola_top.specs.Answer.{IsRefused, report_of_form, Answer, usage, too_long, layout, missing, schema, rules_text, rule, check_report, query_text, query, database, run_report}
+use Rattle.kola_top.specs.Stages.{text_at, text_in, IsQuery, IsTaken, IsLaidOut, HasSections, HasSchema, rules_read, HasRulesText, HasRules, place_in, classes_in, found_in, HasQueryText, HasType, HasTerm, HasQuery}
+use Rattle.kola_top.specs.Answer.{IsRefused, report_of_translate, report_of_form, Answer, usage, too_long, layout, missing, schema, rules_text, rule, check_report, query_text, query_type, too_large, translate_report, query, database, run_report}
 use Rattle.kola_top.proofs.RulesLaws.{one_file, file_or_fault, one_rules_fault, one_bad_draft, valid_or_bad}
 use Rattle.kola_top.proofs.FoundLaws.{one_fault, one_layout}
 use Rattle.kola_top.proofs.FormLaws.{one_form}
-use Rattle.kola_top.proofs.QueryTextLaws.{spelled_or_at_fault, one_fault_of_query}
-use Rattle.kola_top.specs.Staged.{Then, refused, onward}
-use Rattle.kola_top.specs.StageLine.{at_words, at_length, at_layout, at_place, at_schema, at_rules_text, at_rules, at_query_text, at_query, at_database, Reported, reported, FromDatabase, FromQuery, FromQueryText, BehindRules, FromRules, FromRulesText, FromSchema, FromPlace, OnItsWay, AllTheWay}
+use Rattle.kola_top.proofs.QueryTextLaws.{one_query_of, spelled_or_at_fault, one_fault_of_query}
+use Rattle.kola_top.specs.Staged.{Says, Then, refused, onward, Nothing}
+use Rattle.kola_top.specs.StageLine.{at_words, at_length, at_layout, at_place, at_schema, at_rules_text, at_rules, at_query_text, at_query_type, at_size, at_query, at_database, Reported, reported, FromDatabase, FromQuery, FromQueryText, BehindRules, FromRules, FromRulesText, FromSchema, FromPlace, OnItsWay, AllTheWay}
 use Rattle.kola_top.proofs.Staged.{One, IsOne, one_then}
 
 one_query : (text : List ℕ) (f g : SelectForm) → IsQuery text f → IsQuery text g → f ≡ g
@@ -74,6 +78,24 @@ not_refused : (S : Classes) (text : List ℕ) (e : DbFault) (j : Data) (os : Obj
 not_refused S text _ j os (of_value e k b q) a p = no_ok os e (db_of S k) (ap (db_of S) (one_value text k j b a) ∙ p) q
 not_refused S text _ j os (no_value h) a p = h j a
 
+-- ---- what comes behind a query's term
+
+abbrev Rest : Action → List ℕ → Sections → Span → Classes → QueryTree → TypeTree → Says
+Rest Check job found p S q t = Nothing
+Rest Translate job found p S q t = Reported (report_of_translate S q t)
+Rest Run job found p S q t = FromQuery (text_at job p) (text_in job found.database) S
+
+abbrev FromSize : Classes → (QueryTree → TypeTree → Says) → QueryTree → TypeTree → Says
+FromSize S rest q t = Then (at_size S q) (λ _. rest q t)
+
+abbrev FromType : Classes → (QueryTree → TypeTree → Says) → QueryTree → Says
+FromType S rest q = Then (at_query_type S q) (FromSize S rest q)
+
+behind_asks : (a : Action) (job : List ℕ) (found : Sections) (p : Span) (S : Classes) (ds : List DraftTree) → needs a ≡ Query → (s : Status) (b : List ℕ) → FromQueryText (text_at job p) S (Rest a job found p S) s b → BehindRules a job found p S ds s b
+behind_asks Check job found p S ds n s b k = absurd (cc)
+behind_asks Translate job found p S ds n s b k = k
+behind_asks Run job found p S ds n s b k = k
+
 -- ---- the answer as a line of stages
 
 module _ (words : List (List ℕ)) (job : List ℕ) where
@@ -94,14 +116,25 @@ module _ (words : List (List ℕ)) (job : List ℕ) where
     with_drafts : (r : HasRulesText words job a) (s : Status) (b : List ℕ) → FromRules a job r.before.before.before.found r.before.before.place r.before.classes r.drafts s b → AllTheWay words job s b
     with_drafts r s b k = with_schema r.before s b (onward r.drafts s b r.writes k)
 
-    with_rules : (r : HasRules words job a) (s : Status) (b : List ℕ) → BehindRules a job r.before.before.before.before.found r.before.before.before.place r.before.before.classes r.before.drafts s b → AllTheWay words job s b
+    with_rules : (r : HasRules words job a) (s : Status) (b : List ℕ) → BehindRules a job (found_in r) (place_in r) (classes_in r) r.before.drafts s b → AllTheWay words job s b
     with_rules r s b k = with_drafts r.before s b (onward tt s b r.valid k)
 
-  with_query_text : (w : HasQueryText words job) (s : Status) (b : List ℕ) → FromQuery job w.before.before.before.before.before.found w.before.before.before.before.place w.before.before.before.classes s b → AllTheWay words job s b
-  with_query_text w s b k = with_rules w.before s b (onward tt s b (w.query, w.spells) k)
+    with_query : (r : HasRules words job a) → needs a ≡ Query → (s : Status) (b : List ℕ) → FromQueryText (text_at job (place_in r)) (classes_in r) (Rest a job (found_in r) (place_in r) (classes_in r)) s b → AllTheWay words job s b
+    with_query r n s b k = with_rules r s b (behind_asks a job (found_in r) (place_in r) (classes_in r) r.before.drafts n s b k)
 
-  with_query : (q : HasQuery words job) (s : Status) (b : List ℕ) → FromDatabase job q.before.before.before.before.before.before.found q.before.before.before.before.classes q.form s b → AllTheWay words job s b
-  with_query q s b k = with_query_text q.before s b (onward q.form s b q.is k)
+    with_type : (w : HasQueryText words job a) (s : Status) (b : List ℕ) → FromType (classes_in w.before) (Rest a job (found_in w.before) (place_in w.before) (classes_in w.before)) w.query s b → AllTheWay words job s b
+    with_type w s b k = with_query w.before w.asks s b (onward w.query s b w.spells k)
+
+    with_size : (t : HasType words job a) (s : Status) (b : List ℕ)
+        → FromSize (classes_in t.before.before) (Rest a job (found_in t.before.before) (place_in t.before.before) (classes_in t.before.before)) t.before.query t.query_type s b → AllTheWay words job s b
+    with_size t s b k = with_type t.before s b (onward t.query_type s b t.typed k)
+
+    with_term : (t : HasTerm words job a) (s : Status) (b : List ℕ)
+        → Rest a job (found_in t.before.before.before) (place_in t.before.before.before) (classes_in t.before.before.before) t.before.before.query t.before.query_type s b → AllTheWay words job s b
+    with_term t s b k = with_size t.before s b (onward tt s b t.fits k)
+
+  with_form : (q : HasQuery words job) (s : Status) (b : List ℕ) → FromDatabase (text_in job (found_in q.before.before.before.before).database) (classes_in q.before.before.before.before) q.form s b → AllTheWay words job s b
+  with_form q s b k = with_term q.before s b (onward q.form s b q.is k)
 
   pub staged : (s : Status) (b : List ℕ) → Answer words job s b → AllTheWay words job s b
   staged _ _ (usage e) = refused tt e
@@ -112,10 +145,13 @@ module _ (words : List (List ℕ)) (job : List ℕ) where
   staged _ _ (rules_text a at why s h) = with_schema s _ _ (refused (at, why) h)
   staged _ _ (rule a name step why s h) = with_drafts s _ _ (refused (name, step, why) h)
   staged _ _ (check_report s) = with_rules s _ _ reported
-  staged _ _ (query_text at cause s h) = with_rules s _ _ (refused (at, cause) h)
-  staged _ _ (query s h) = with_query_text s _ _ (refused tt h)
-  staged _ _ (database e s h) = with_query s _ _ (refused e h)
-  staged _ _ (run_report s) = with_query s.before _ _ (onward tt _ _ (s.value, s.objects, s.reads, s.writes) reported)
+  staged _ _ (query_text a at cause s n h) = with_query s n _ _ (refused (at, cause) h)
+  staged _ _ (query_type a at why s h) = with_type s _ _ (refused (at, why) h)
+  staged _ _ (too_large a s h) = with_size s _ _ (refused tt h)
+  staged _ _ (translate_report s) = with_term s _ _ reported
+  staged _ _ (query s h) = with_term s _ _ (refused tt h)
+  staged _ _ (database e s h) = with_form s _ _ (refused e h)
+  staged _ _ (run_report s) = with_form s.before _ _ (onward tt _ _ (s.value, s.objects, s.reads, s.writes) reported)
 
   -- ---- each stage refuses in at most one way or accepts one thing
 
@@ -160,9 +196,19 @@ module _ (words : List (List ℕ)) (job : List ℕ) where
   one_spelled : (text : List ℕ) → IsOne (at_query_text text)
   one_spelled text = record {
     one_refusal = λ e f p q. let same = one_fault_of_query text e.0 f.0 e.1 f.1 p q in (refl, ap (λ n. query_fault_line n e.1) same.0 ∙ ap (query_fault_line f.0) same.1);
-    one_thing = λ _ _ _ _. refl;
-    not_both = λ e _ p q. spelled_or_at_fault text q.0 e.0 e.1 q.1 p;
+    one_thing = λ x y p q. one_query_of text x y p q;
+    not_both = λ e x p q. spelled_or_at_fault text x e.0 e.1 q p;
   }
+
+  one_typing : (S : Classes) (x : QueryTree) → IsOne (at_query_type S x)
+  one_typing S x = record {
+    one_refusal = λ e f p q. let same = one_type_fault S [] x e.0 f.0 e.1 f.1 p q in (refl, ap (λ n. query_type_line n e.1) same.0 ∙ ap (query_type_line f.0) same.1);
+    one_thing = λ t u p q. one_type S [] x t u p q;
+    not_both = λ e t p q. typed_or_at_fault S [] x t e.0 e.1 q p;
+  }
+
+  one_fitting : (S : Classes) (x : QueryTree) → IsOne (at_size S x)
+  one_fitting S x = record { one_refusal = λ _ _ _ _. (refl, refl); one_thing = λ _ _ _ _. refl; not_both = λ _ _ p q. p q }
 
   one_select : (text : List ℕ) → IsOne (at_query text)
   one_select text = record { one_refusal = λ _ _ _ _. (refl, refl); one_thing = λ x y h k. one_query text x y h k; not_both = λ _ x h k. h x k }
@@ -177,40 +223,59 @@ module _ (words : List (List ℕ)) (job : List ℕ) where
   one_report : (text : List ℕ) → One (Reported text)
   one_report text _ _ _ _ reported reported = (refl, refl)
 
-  one_run : (found : Sections) (p : Span) (S : Classes) → One (FromQueryText job found p S)
-  one_run found p S =
-      one_then (at_query_text (text_at job p)) _ (one_spelled (text_at job p)) (λ _ _. one_then (at_query (text_at job p)) _ (one_select (text_at job p)) (λ f _.
-      one_then (at_database S (text_in job found.database)) _ (one_objects S (text_in job found.database)) (λ _ _. one_report (report_text (report_of_form f)))))
+  one_asked : (text : List ℕ) (S : Classes) (rest : QueryTree → TypeTree → Says) → ((q : QueryTree) (t : TypeTree) → One (rest q t)) → One (FromQueryText text S rest)
+  one_asked text S rest each =
+      one_then (at_query_text text) (FromType S rest) (one_spelled text) (λ q _. one_then (at_query_type S q) (FromSize S rest q) (one_typing S q) (λ t _. one_then (at_size S q) (λ _. rest q t) (one_fitting S q) (λ _ _. each q t)))
+
+  one_run : (text database : List ℕ) (S : Classes) → One (FromQuery text database S)
+  one_run text database S = one_then (at_query text) _ (one_select text) (λ f _. one_then (at_database S database) _ (one_objects S database) (λ _ _. one_report (report_text (report_of_form f))))
 
   one_behind : (a : Action) (found : Sections) (p : Span) (S : Classes) (ds : List DraftTree) → One (BehindRules a job found p S ds)
   one_behind Check found p S ds = one_report _
-  one_behind Run found p S ds = one_run found p S
+  one_behind Translate found p S ds = one_asked (text_at job p) S (Rest Translate job found p S) (λ q t. one_report (report_of_translate S q t))
+  one_behind Run found p S ds = one_asked (text_at job p) S (Rest Run job found p S) (λ _ _. one_run (text_at job p) (text_in job found.database) S)
 
   one_staged : One (AllTheWay words job)
   one_staged =
       one_then (at_words words) _ one_words (λ a _. one_then (at_length job) _ one_length (λ _ _. one_then (at_layout job) _ one_lay_out (λ found _. one_then (at_place a found) _ (one_place a found) (λ p _.
-      one_then (at_schema (text_in job found.schema)) _ (one_classes (text_in job found.schema)) (λ S _. one_then (at_rules_text (text_in job found.rules)) _ (one_drafts (text_in job found.rules)) (λ ds _.
+      one_then (at_schema (text_in job found.schema)) _ (one_classes (text_in job found.schema)) (λ S _. one_then (at_rules_text (rules_read a job found)) _ (one_drafts (rules_read a job found)) (λ ds _.
       one_then (at_rules S ds) _ (one_rules S ds) (λ _ _. one_behind a found p S ds)))))))
 
   pub one_answer : One (Answer words job)
   one_answer s t b c x y = one_staged s t b c (staged s b x) (staged t c y)
 
   -- the line of stages says nothing else
-  from_database : (q : HasQuery words job) (s : Status) (b : List ℕ) → FromDatabase job q.before.before.before.before.before.before.found q.before.before.before.before.classes q.form s b → Answer words job s b
+  from_database : (q : HasQuery words job) (s : Status) (b : List ℕ) → FromDatabase (text_in job (found_in q.before.before.before.before).database) (classes_in q.before.before.before.before) q.form s b → Answer words job s b
   from_database q _ _ (refused e h) = database e q h
   from_database q _ _ (onward _ _ _ d reported) = run_report (record { before = q; value = d.0; objects = d.1; reads = d.2; writes = d.3 })
 
-  from_query : (w : HasQueryText words job) (s : Status) (b : List ℕ) → FromQuery job w.before.before.before.before.before.found w.before.before.before.before.place w.before.before.before.classes s b → Answer words job s b
-  from_query w _ _ (refused _ h) = query w h
-  from_query w _ _ (onward f s b i k) = from_database (record { before = w; form = f; is = i }) s b k
+  from_query : (t : HasTerm words job Run) (s : Status) (b : List ℕ) → FromQuery (text_at job (place_in t.before.before.before)) (text_in job (found_in t.before.before.before).database) (classes_in t.before.before.before) s b → Answer words job s b
+  from_query t _ _ (refused _ h) = query t h
+  from_query t _ _ (onward f s b i k) = from_database (record { before = t; form = f; is = i }) s b k
 
-  from_query_text : (c : HasRules words job Run) (s : Status) (b : List ℕ) → FromQueryText job c.before.before.before.before.found c.before.before.before.place c.before.before.classes s b → Answer words job s b
-  from_query_text c _ _ (refused f h) = query_text f.0 f.1 c h
-  from_query_text c _ _ (onward _ s b q k) = from_query (record { before = c; query = q.0; spells = q.1 }) s b k
+  from_term : (a : Action) (t : HasTerm words job a) (s : Status) (b : List ℕ)
+      → Rest a job (found_in t.before.before.before) (place_in t.before.before.before) (classes_in t.before.before.before) t.before.before.query t.before.query_type s b → Answer words job s b
+  from_term Check t s b k = elim k [ ]
+  from_term Translate t _ _ reported = translate_report t
+  from_term Run t s b k = from_query t s b k
 
-  behind_rules : (a : Action) (r : HasRules words job a) (s : Status) (b : List ℕ) → BehindRules a job r.before.before.before.before.found r.before.before.before.place r.before.before.classes r.before.drafts s b → Answer words job s b
+  from_size : (a : Action) (t : HasType words job a) (s : Status) (b : List ℕ)
+      → FromSize (classes_in t.before.before) (Rest a job (found_in t.before.before) (place_in t.before.before) (classes_in t.before.before)) t.before.query t.query_type s b → Answer words job s b
+  from_size a t _ _ (refused _ h) = too_large a t h
+  from_size a t _ _ (onward _ s b f k) = from_term a (record { before = t; fits = f }) s b k
+
+  from_type : (a : Action) (w : HasQueryText words job a) (s : Status) (b : List ℕ) → FromType (classes_in w.before) (Rest a job (found_in w.before) (place_in w.before) (classes_in w.before)) w.query s b → Answer words job s b
+  from_type a w _ _ (refused f h) = query_type a f.0 f.1 w h
+  from_type a w _ _ (onward t s b h k) = from_size a (record { before = w; query_type = t; typed = h }) s b k
+
+  from_query_text : (a : Action) (r : HasRules words job a) → needs a ≡ Query → (s : Status) (b : List ℕ) → FromQueryText (text_at job (place_in r)) (classes_in r) (Rest a job (found_in r) (place_in r) (classes_in r)) s b → Answer words job s b
+  from_query_text a r n _ _ (refused f h) = query_text a f.0 f.1 r n h
+  from_query_text a r n _ _ (onward q s b h k) = from_type a (record { before = r; asks = n; query = q; spells = h }) s b k
+
+  behind_rules : (a : Action) (r : HasRules words job a) (s : Status) (b : List ℕ) → BehindRules a job (found_in r) (place_in r) (classes_in r) r.before.drafts s b → Answer words job s b
   behind_rules Check r _ _ reported = check_report r
-  behind_rules Run r s b k = from_query_text r s b k
+  behind_rules Translate r s b k = from_query_text Translate r refl s b k
+  behind_rules Run r s b k = from_query_text Run r refl s b k
 
   from_rules : (a : Action) (r : HasRulesText words job a) (s : Status) (b : List ℕ) → FromRules a job r.before.before.before.found r.before.before.place r.before.classes r.drafts s b → Answer words job s b
   from_rules a r _ _ (refused f h) = rule a f.0 f.1 f.2 r h

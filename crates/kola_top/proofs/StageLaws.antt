@@ -1,11 +1,11 @@
 -- From what each stage answers to the answer of the line.
 use Rattle.std.proofs.Common.{◌≡◌, ℕ, List, true, Result, Ok, Err, refl, sym, subst}
 use Rattle.kola_top.specs.declared.refusal.Refusal.{Refusal}
-use Rattle.kola_top.specs.declared.refusal.Refusal.TheVariants.{Layout, Missing, Schema, Rules, Rule, Query, NotBuilt, Database, Memory}
+use Rattle.kola_top.specs.declared.refusal.Refusal.TheVariants.{Layout, Missing, Schema, Rules, Rule, Query, QueryType, TermTooLarge, NotBuilt, Database, Memory}
 use Rattle.kola_top.specs.declared.status.Status.{Status}
 use Rattle.kola_top.specs.Staged.{Says, Stage, Then, refused, onward}
-use Rattle.kola_top.specs.StageLine.{at_schema, at_rules_text, at_rules, at_query_text}
-use Rattle.kola_top.specs.Refusals.{of_schema, of_rules, of_file, of_query, is_told, status_of, line_of, Refuses, Replies, IsOf, Passes}
+use Rattle.kola_top.specs.StageLine.{at_schema, at_rules_text, at_rules, at_query_text, at_query_type, at_size}
+use Rattle.kola_top.specs.Refusals.{of_schema, of_rules, of_file, of_query, of_check, of_translate, is_told, status_of, line_of, Refuses, Replies, IsOf, Passes}
 use Rattle.std.specs.Result.{IsErrAnd}
 use Rattle.kola_load.specs.SchemaAccepted.{greatest_nesting, IsFault}
 use Rattle.kola_load.specs.declared.schema_fault.SchemaFault.{SchemaFault}
@@ -22,6 +22,13 @@ use Rattle.coko_text.specs.Limits.{greatest_nesting as greatest_type_nesting}
 use Rattle.kola_proof.specs.Accepting.{IsFileVerdict}
 use Rattle.kola_proof.specs.declared.fault.FileFault.{FileFault}
 use Rattle.kola_proof.specs.declared.fault.FileFault.TheVariants as file
+use Rattle.oql_tree.specs.QueryTrees.{QueryTree}
+use Rattle.oql_check.specs.CheckAnswers.{FaultOf}
+use Rattle.oql_check.specs.declared.fault.CheckFault.{CheckFault}
+use Rattle.oql_check.specs.declared.fault.CheckFault.TheVariants as check
+use Rattle.kola_translate.specs.TranslationAnswers.{IsTranslated}
+use Rattle.kola_translate.specs.declared.fault.TranslateFault.{TranslateFault}
+use Rattle.kola_translate.specs.declared.fault.TranslateFault.TheVariants as translate
 use Rattle.oql_syntax.specs.QueryAnswers.{IsQueryRefusal, why_cause, fault_refusal}
 use Rattle.oql_syntax.specs.declared.read.QueryFault.{QueryFault}
 use Rattle.oql_syntax.specs.declared.read.QueryFault.TheVariants as query
@@ -34,6 +41,8 @@ refuses_too A B f (Schema x y) h = f _ _ h
 refuses_too A B f (Rules x y) h = f _ _ h
 refuses_too A B f (Rule x y z) h = f _ _ h
 refuses_too A B f (Query x y) h = f _ _ h
+refuses_too A B f (QueryType x y) h = f _ _ h
+refuses_too A B f TermTooLarge h = f _ _ h
 refuses_too A B f NotBuilt h = f _ _ h
 refuses_too A B f (Database x) h = f _ _ h
 refuses_too A B f Memory h = tt
@@ -78,6 +87,14 @@ pub query_refused : (text : List ℕ) (f : QueryFault) → IsQueryRefusal text (
 query_refused text (query.At at why) h = ((at, why_cause why), h, refl, refl)
 query_refused text query.Memory h = tt
 
+pub type_refused : (S : Classes) (q : QueryTree) (f : CheckFault) → FaultOf S q f → Refuses (IsOf (at_query_type S q)) (of_check f)
+type_refused S q (check.At at why) h = ((at, why), h.0, refl, refl)
+type_refused S q check.Memory h = tt
+
+pub size_refused : (S : Classes) (q : QueryTree) (f : TranslateFault) → IsTranslated S q (Err f) → Refuses (IsOf (at_size S q)) (of_translate f)
+size_refused S q translate.TooLarge h = (tt, h, refl, refl)
+size_refused S q translate.Memory h = tt
+
 -- a refusal that is told says its answer
 pub told_refuses : (A : Says) (r : Refusal) → is_told r ≡ true → Refuses A r → A (status_of r) (line_of r)
 told_refuses A (Layout x) t h = h
@@ -86,6 +103,8 @@ told_refuses A (Schema x y) t h = h
 told_refuses A (Rules x y) t h = h
 told_refuses A (Rule x y z) t h = h
 told_refuses A (Query x y) t h = h
+told_refuses A (QueryType x y) t h = h
+told_refuses A TermTooLarge t h = h
 told_refuses A NotBuilt t h = h
 told_refuses A (Database x) t h = h
 told_refuses A Memory t h = cc

@@ -8,6 +8,8 @@ use Rattle.kola_load.specs.declared.schema_fault.SchemaWhy.{SchemaWhy}
 use Rattle.kola_load.specs.CauseNames.{schema_name, db_name}
 use Rattle.oql_syntax.specs.QueryFaults.{QueryCause, CNotInProfile}
 use Rattle.oql_syntax.specs.QueryAnswers.{cause_name}
+use Rattle.oql_check.specs.CheckAnswers.{check_name}
+use Rattle.oql_check.specs.declared.fault.CheckWhy.{CheckWhy}
 use Rattle.kola_base.specs.declared.text_fault.TextWhy.{TextWhy}
 use Rattle.kola_base.specs.CauseNames.{text_name}
 use Rattle.kola_proof.specs.declared.fault.StepWhy.{StepWhy}
@@ -87,6 +89,14 @@ query_cause cause = cause_name cause
 -- a text that spells no query
 abbrev pub query_fault_line : ℕ → QueryCause → List ℕ
 query_fault_line at cause = query_line at (query_cause cause)
+
+-- a query that has no type
+abbrev pub query_type_line : ℕ → CheckWhy → List ℕ
+query_type_line at why = query_line at (check_name why)
+
+-- a query whose term is larger than a term may be
+abbrev pub too_large_line : List ℕ
+too_large_line = codes "fault: term too large\n"
 
 -- a query that is none of the form
 abbrev pub not_built_line : List ℕ

@@ -8,10 +8,12 @@ pub mod Statuses
 pub mod Words
 pub mod FaultLines
 pub mod Stages
+pub mod Deciding
 pub mod Answer
 pub mod Staged
 pub mod StageLine
 pub mod Refusals
+pub mod AskedViews
 pub mod FormReader
 pub mod FormViews
 pub mod ReportViews

@@ -8,14 +8,18 @@ use Rattle.kola_load.specs.declared.schema_fault.SchemaFault.{SchemaFault}
 use Rattle.kola_load.specs.declared.schema_fault.SchemaFault.TheVariants as schema
 use Rattle.kola_load.specs.declared.fault.DbFault.{DbFault}
 use Rattle.kola_load.specs.declared.fault.DbFault.TheVariants as db
+use Rattle.oql_check.specs.declared.fault.CheckFault.{CheckFault}
+use Rattle.oql_check.specs.declared.fault.CheckFault.TheVariants as check
+use Rattle.kola_translate.specs.declared.fault.TranslateFault.{TranslateFault}
+use Rattle.kola_translate.specs.declared.fault.TranslateFault.TheVariants as translate
 use Rattle.oql_syntax.specs.QueryAnswers.{why_cause}
 use Rattle.oql_syntax.specs.declared.read.QueryFault.{QueryFault}
 use Rattle.oql_syntax.specs.declared.read.QueryFault.TheVariants as query
 use Rattle.kola_top.specs.declared.refusal.Refusal.{Refusal}
-use Rattle.kola_top.specs.declared.refusal.Refusal.TheVariants.{Layout, Missing, Schema, Rules, Rule, Query, NotBuilt, Database, Memory}
+use Rattle.kola_top.specs.declared.refusal.Refusal.TheVariants.{Layout, Missing, Schema, Rules, Rule, Query, QueryType, TermTooLarge, NotBuilt, Database, Memory}
 use Rattle.kola_top.specs.declared.status.Status.{Status}
 use Rattle.kola_top.specs.declared.status.Status.TheVariants as statuses
-use Rattle.kola_top.specs.FaultLines.{layout_fault_line, missing_line, schema_line, rules_line, rule_line, query_fault_line, not_built_line, database_line}
+use Rattle.kola_top.specs.FaultLines.{layout_fault_line, missing_line, schema_line, rules_line, rule_line, query_fault_line, query_type_line, too_large_line, not_built_line, database_line}
 use Rattle.kola_top.specs.Staged.{Says, Stage}
 
 abbrev pub of_schema : SchemaFault → Refusal
@@ -34,6 +38,14 @@ abbrev pub of_query : QueryFault → Refusal
 of_query (query.At at why) = Query at why
 of_query query.Memory = Memory
 
+abbrev pub of_check : CheckFault → Refusal
+of_check (check.At at why) = QueryType at why
+of_check check.Memory = Memory
+
+abbrev pub of_translate : TranslateFault → Refusal
+of_translate translate.TooLarge = TermTooLarge
+of_translate translate.Memory = Memory
+
 abbrev pub of_database : DbFault → Refusal
 of_database db.Memory = Memory
 of_database f = Database f
@@ -50,6 +62,8 @@ status_of (Schema at why) = statuses.Schema
 status_of (Rules at why) = statuses.Rules
 status_of (Rule name step why) = statuses.Rules
 status_of (Query at why) = statuses.Query
+status_of (QueryType at why) = statuses.Query
+status_of TermTooLarge = statuses.TermTooLarge
 status_of NotBuilt = statuses.Query
 status_of (Database f) = statuses.Database
 status_of Memory = statuses.Memory
@@ -61,6 +75,8 @@ line_of (Schema at why) = schema_line at why
 line_of (Rules at why) = rules_line at why
 line_of (Rule name step why) = rule_line name step why
 line_of (Query at why) = query_fault_line at (why_cause why)
+line_of (QueryType at why) = query_type_line at why
+line_of TermTooLarge = too_large_line
 line_of NotBuilt = not_built_line
 line_of (Database f) = database_line f
 line_of Memory = codes ""

@@ -1,4 +1,4 @@
--- What `check` and `run` write where nothing is refused.
+-- What `check`, `translate` and `run` write where nothing is refused.
 use Rattle.std.specs.Prelude.{ℕ, Bool, true, false, List, ◌++◌, length, codes}
 use Rattle.std.specs.List.{flat_map}
 use Rattle.std.specs.Fmt.{decimal}
@@ -15,6 +15,12 @@ accepted_line name = codes "rule " ++ (name ++ codes " ok\n")
 -- a line for each rule, in their order, and the numbers of the rules and of the blocks
 abbrev pub check_text : List (List ℕ) → ℕ → List ℕ
 check_text names blocks = flat_map accepted_line names ++ (report_line (codes "rules") (decimal (length names)) ++ report_line (codes "blocks") (decimal blocks))
+
+-- ---- translate
+
+-- a line for the term and one for the query's type
+abbrev pub translate_text : List ℕ → List ℕ → List ℕ
+translate_text term query_type = report_line (codes "query") term ++ report_line (codes "type") query_type
 
 -- ---- run
 

@@ -1,13 +1,14 @@
 -- The answer to a job as a line of stages. Private clauses cite it: what is promised stands in Answer.antt, a case for each.
-use Rattle.std.specs.Prelude.{◌≡◌, ℕ, ◌+◌, ◌<◌, ◌≤◌, List, length, Some, None, Ok}
+use Rattle.std.specs.Prelude.{◌≡◌, ℕ, ◌+◌, ◌<◌, ◌≤◌, List, [], length, Some, None, Ok}
 use Rattle.kola_base.specs.declared.text_fault.TextWhy.{TextWhy}
 use Rattle.kola_top.specs.declared.section.Span.{Span}
 use Rattle.kola_top.specs.declared.section.Sections.{Sections}
 use Rattle.kola_top.specs.declared.layout.LayoutFault.{LayoutFault}
 use Rattle.kola_top.specs.declared.words.Action.{Action}
-use Rattle.kola_top.specs.declared.words.Action.TheVariants.{Check, Run}
+use Rattle.kola_top.specs.declared.words.Action.TheVariants.{Check, Translate, Run}
 use Rattle.kola_top.specs.declared.status.Status.{Status}
 use Rattle.kola_top.specs.declared.status.Status.TheVariants as statuses
+use Rattle.kola_values.specs.Types.{TypeTree}
 use Rattle.kola_values.specs.Databases.{Classes, Objects}
 use Rattle.serde_json.specs.Data.{Data}
 use Rattle.kola_load.specs.Loading.{db_of}
@@ -25,10 +26,15 @@ use Rattle.kola_top.specs.SelectForm.{SelectForm}
 use Rattle.oql_syntax.specs.QueryAnswers.{SpellsQuery, IsQueryFault}
 use Rattle.oql_syntax.specs.QueryFaults.{QueryCause}
 use Rattle.oql_tree.specs.QueryTrees.{QueryTree}
+use Rattle.oql_check.specs.QueryTypes.{FirstFault}
+use Rattle.oql_check.specs.TypedQueries.{HasQueryType}
+use Rattle.oql_check.specs.declared.fault.CheckWhy.{CheckWhy}
+use Rattle.kola_translate.specs.Translation.{translation}
+use Rattle.kola_translate.specs.TranslationAnswers.{FitsAtUnit}
 use Rattle.kola_top.specs.Report.{report_text}
-use Rattle.kola_top.specs.FaultLines.{usage_line, too_long_line, layout_fault_line, missing_line, schema_line, rules_line, rule_line, query_fault_line, not_built_line, database_line}
-use Rattle.kola_top.specs.Stages.{greatest_length, text_at, text_in, WritesRules, IsRulesFault, IsQuery, IsNoQuery}
-use Rattle.kola_top.specs.Answer.{IsRefused, report_of_check, report_of_form}
+use Rattle.kola_top.specs.FaultLines.{usage_line, too_long_line, layout_fault_line, missing_line, schema_line, rules_line, rule_line, query_fault_line, query_type_line, too_large_line, not_built_line, database_line}
+use Rattle.kola_top.specs.Stages.{greatest_length, text_at, text_in, rules_read, WritesRules, IsRulesFault, IsQuery, IsNoQuery}
+use Rattle.kola_top.specs.Answer.{IsRefused, report_of_check, report_of_translate, report_of_form}
 use Rattle.kola_top.specs.Staged.{Says, Stage, Then}
 
 abbrev pub at_words : List (List ℕ) → Stage (Unit {0}) Action
@@ -52,8 +58,14 @@ at_rules_text text = record { refuses = λ f. IsRulesFault text f.0 f.1; accepts
 abbrev pub at_rules : Classes → List DraftTree → Stage (List ℕ × ℕ × StepWhy) (Unit {0})
 at_rules S ds = record { refuses = λ f. FirstBadDraft S laws ds f.0 f.1 f.2; accepts = λ _. AreValid S laws ds; status = λ _. statuses.Rules; bytes = λ f. rule_line f.0 f.1 f.2 }
 
-abbrev pub at_query_text : List ℕ → Stage (ℕ × QueryCause) (Unit {0})
-at_query_text text = record { refuses = λ f. IsQueryFault text f.0 f.1; accepts = λ _. (q : QueryTree) × SpellsQuery text q; status = λ _. statuses.Query; bytes = λ f. query_fault_line f.0 f.1 }
+abbrev pub at_query_text : List ℕ → Stage (ℕ × QueryCause) QueryTree
+at_query_text text = record { refuses = λ f. IsQueryFault text f.0 f.1; accepts = SpellsQuery text; status = λ _. statuses.Query; bytes = λ f. query_fault_line f.0 f.1 }
+
+abbrev pub at_query_type : Classes → QueryTree → Stage (ℕ × CheckWhy) TypeTree
+at_query_type S q = record { refuses = λ f. FirstFault S [] q f.0 f.1; accepts = HasQueryType S [] q; status = λ _. statuses.Query; bytes = λ f. query_type_line f.0 f.1 }
+
+abbrev pub at_size : Classes → QueryTree → Stage (Unit {0}) (Unit {0})
+at_size S q = record { refuses = λ _. FitsAtUnit S (translation S q) → ⊥; accepts = λ _. FitsAtUnit S (translation S q); status = λ _. statuses.TermTooLarge; bytes = λ _. too_large_line }
 
 abbrev pub at_query : List ℕ → Stage (Unit {0}) SelectForm
 at_query text = record { refuses = λ _. IsNoQuery text; accepts = IsQuery text; status = λ _. statuses.Query; bytes = λ _. not_built_line }
@@ -71,25 +83,27 @@ pub data Reported (text : List ℕ) : Status → List ℕ → Type 0 where
   reported : Reported text statuses.Ok text
 
 -- a job of no more than the greatest length on its way to the report, a line for each stage, the last first
-abbrev pub FromDatabase : List ℕ → Sections → Classes → SelectForm → Says
-FromDatabase job found S f = Then (at_database S (text_in job found.database)) (λ _. Reported (report_text (report_of_form f)))
+abbrev pub FromDatabase : List ℕ → Classes → SelectForm → Says
+FromDatabase database S f = Then (at_database S database) (λ _. Reported (report_text (report_of_form f)))
 
-abbrev pub FromQuery : List ℕ → Sections → Span → Classes → Says
-FromQuery job found p S = Then (at_query (text_at job p)) (FromDatabase job found S)
+abbrev pub FromQuery : List ℕ → List ℕ → Classes → Says
+FromQuery text database S = Then (at_query text) (FromDatabase database S)
 
-abbrev pub FromQueryText : List ℕ → Sections → Span → Classes → Says
-FromQueryText job found p S = Then (at_query_text (text_at job p)) (λ _. FromQuery job found p S)
+-- a query's text on its way to its term, and what comes behind it
+abbrev pub FromQueryText : List ℕ → Classes → (QueryTree → TypeTree → Says) → Says
+FromQueryText text S rest = Then (at_query_text text) (λ q. Then (at_query_type S q) (λ t. Then (at_size S q) (λ _. rest q t)))
 
 -- behind the rules each action goes its way
 abbrev pub BehindRules : Action → List ℕ → Sections → Span → Classes → List DraftTree → Says
 BehindRules Check job found p S ds = Reported (report_of_check ds)
-BehindRules Run job found p S ds = FromQueryText job found p S
+BehindRules Translate job found p S ds = FromQueryText (text_at job p) S (λ q t. Reported (report_of_translate S q t))
+BehindRules Run job found p S ds = FromQueryText (text_at job p) S (λ _ _. FromQuery (text_at job p) (text_in job found.database) S)
 
 abbrev pub FromRules : Action → List ℕ → Sections → Span → Classes → List DraftTree → Says
 FromRules a job found p S ds = Then (at_rules S ds) (λ _. BehindRules a job found p S ds)
 
 abbrev pub FromRulesText : Action → List ℕ → Sections → Span → Classes → Says
-FromRulesText a job found p S = Then (at_rules_text (text_in job found.rules)) (FromRules a job found p S)
+FromRulesText a job found p S = Then (at_rules_text (rules_read a job found)) (FromRules a job found p S)
 
 abbrev pub FromSchema : Action → List ℕ → Sections → Span → Says
 FromSchema a job found p = Then (at_schema (text_in job found.schema)) (FromRulesText a job found p)

@@ -5,6 +5,9 @@ use Rattle.kola_top.specs.declared.status.Status.{Status}
 abbrev pub Says : Type 1
 Says = Status → List ℕ → Type 0
 
+-- nothing is said
+pub data Nothing : Status → List ℕ → Type 0 where
+
 -- a stage: its refusals with what each answers, and what is accepted
 pub record Stage (F R : Type 0) : Type 1 where
   pub refuses : F → Type 0

@@ -3,7 +3,8 @@ use Rattle.std.specs.Prelude.{◌≡◌, ℕ, ◌≤◌, Option, List, [], lengt
 use Rattle.kola_top.specs.declared.section.Span.{Span}
 use Rattle.kola_top.specs.declared.section.Sections.{Sections}
 use Rattle.kola_top.specs.declared.words.Action.{Action}
-use Rattle.kola_top.specs.declared.words.Action.TheVariants.{Run}
+use Rattle.kola_top.specs.declared.words.Action.TheVariants.{Translate, Run}
+use Rattle.kola_top.specs.declared.section.Section.TheVariants.{Query}
 use Rattle.kola_top.specs.Words.{action_of, needs}
 use Rattle.kola_top.specs.Layout.{AreSections, place_of}
 use Rattle.kola_base.specs.declared.lex.Token.{Token}
@@ -14,6 +15,10 @@ use Rattle.kola_base.specs.declared.text_fault.TextWhy.{TextWhy}
 use Rattle.kola_top.specs.SelectForm.{SelectForm, Says}
 use Rattle.oql_syntax.specs.QueryAnswers.{SpellsQuery}
 use Rattle.oql_tree.specs.QueryTrees.{QueryTree}
+use Rattle.oql_check.specs.TypedQueries.{HasQueryType}
+use Rattle.kola_translate.specs.Translation.{translation}
+use Rattle.kola_translate.specs.TranslationAnswers.{FitsAtUnit}
+use Rattle.kola_values.specs.Types.{TypeTree}
 use Rattle.kola_values.specs.Databases.{Classes, Objects}
 use Rattle.serde_json.specs.Data.{Data}
 use Rattle.kola_load.specs.Loading.{db_of}
@@ -37,6 +42,11 @@ text_at job p = slice_range job p.from p.to
 abbrev pub text_in : List ℕ → Option Span → List ℕ
 text_in job None = []
 text_in job (Some p) = text_at job p
+
+-- the text of the rules as an action reads it: one that it leaves unread is as if it were empty
+abbrev pub rules_read : Action → List ℕ → Sections → List ℕ
+rules_read Translate job found = []
+rules_read a job found = text_in job found.rules
 
 -- the text writes these rules with their proofs
 abbrev pub WritesRules : List ℕ → List DraftTree → Type 0
@@ -90,29 +100,51 @@ pub record HasSchema (words : List (List ℕ)) (job : List ℕ) (a : Action) : T
 pub record HasRulesText (words : List (List ℕ)) (job : List ℕ) (a : Action) : Type 0 where
   pub before : HasSchema words job a
   pub drafts : List DraftTree
-  pub writes : WritesRules (text_in job before.before.before.found.rules) drafts
+  pub writes : WritesRules (rules_read a job before.before.before.found) drafts
 
 -- each draft is valid by the laws and the rules before it
 pub record HasRules (words : List (List ℕ)) (job : List ℕ) (a : Action) : Type 0 where
   pub before : HasRulesText words job a
   pub valid : AreValid before.before.classes laws before.drafts
 
--- the query's text spells this query
-pub record HasQueryText (words : List (List ℕ)) (job : List ℕ) : Type 0 where
-  pub before : HasRules words job Run
+-- where the text lies that the action needs, what classes the schema has, and where the sections lie
+abbrev pub place_in : {words : List (List ℕ)} {job : List ℕ} {a : Action} → HasRules words job a → Span
+place_in s = s.before.before.before.place
+
+abbrev pub classes_in : {words : List (List ℕ)} {job : List ℕ} {a : Action} → HasRules words job a → Classes
+classes_in s = s.before.before.classes
+
+abbrev pub found_in : {words : List (List ℕ)} {job : List ℕ} {a : Action} → HasRules words job a → Sections
+found_in s = s.before.before.before.before.found
+
+-- the action asks for a query, and its text spells this one
+pub record HasQueryText (words : List (List ℕ)) (job : List ℕ) (a : Action) : Type 0 where
+  pub before : HasRules words job a
+  pub asks : needs a ≡ Query
   pub query : QueryTree
-  pub spells : SpellsQuery (text_at job before.before.before.before.place) query
+  pub spells : SpellsQuery (text_at job (place_in before)) query
+
+-- the query has this type
+pub record HasType (words : List (List ℕ)) (job : List ℕ) (a : Action) : Type 0 where
+  pub before : HasQueryText words job a
+  pub query_type : TypeTree
+  pub typed : HasQueryType (classes_in before.before) [] before.query query_type
+
+-- the query's term fits at the unit
+pub record HasTerm (words : List (List ℕ)) (job : List ℕ) (a : Action) : Type 0 where
+  pub before : HasType words job a
+  pub fits : FitsAtUnit (classes_in before.before.before) (translation (classes_in before.before.before) before.before.query)
 
 -- the query's text is this query of the form
 pub record HasQuery (words : List (List ℕ)) (job : List ℕ) : Type 0 where
-  pub before : HasQueryText words job
+  pub before : HasTerm words job Run
   pub form : SelectForm
-  pub is : IsQuery (text_at job before.before.before.before.before.place) form
+  pub is : IsQuery (text_at job (place_in before.before.before.before)) form
 
 -- the database's text reads as this value, which writes these objects
 pub record HasDatabase (words : List (List ℕ)) (job : List ℕ) : Type 0 where
   pub before : HasQuery words job
   pub value : Data
   pub objects : Objects
-  pub reads : Reads (text_in job before.before.before.before.before.before.before.found.database) value
-  pub writes : db_of before.before.before.before.before.classes value ≡ Ok objects
+  pub reads : Reads (text_in job (found_in before.before.before.before.before).database) value
+  pub writes : db_of (classes_in before.before.before.before.before) value ≡ Ok objects

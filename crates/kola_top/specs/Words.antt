@@ -2,13 +2,14 @@
 use Rattle.std.specs.Prelude.{ℕ, List, [], ◌∷◌, Option, Some, None, codes, if◌then◌else◌}
 use Rattle.std.specs.Str.{bytes_eq}
 use Rattle.kola_top.specs.declared.words.Action.{Action}
-use Rattle.kola_top.specs.declared.words.Action.TheVariants.{Check, Run}
+use Rattle.kola_top.specs.declared.words.Action.TheVariants.{Check, Translate, Run}
 use Rattle.kola_top.specs.declared.section.Section.{Section}
 use Rattle.kola_top.specs.declared.section.Section.TheVariants.{Rules, Query}
 
 abbrev pub action_named : List ℕ → Option Action
 action_named w =
     if bytes_eq w (codes "check") then Some Check
+    else if bytes_eq w (codes "translate") then Some Translate
     else if bytes_eq w (codes "run") then Some Run
     else None
 
@@ -19,4 +20,5 @@ action_of (w ∷ v ∷ ws) = None
 
 abbrev pub needs : Action → Section
 needs Check = Rules
+needs Translate = Query
 needs Run = Query

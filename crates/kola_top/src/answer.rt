@@ -5,9 +5,9 @@ ghost use Rattle.kola_values.specs.Values.{VSet, of_items};
 ghost use Rattle.kola_canon.specs.Spelling.{value_spelling};
 ghost use Rattle.kola_term.specs.Terms.{CSet, FId, FSnd, FComp, FPair, FK, FIter};
 ghost use Rattle.kola_text.specs.Spelling.{fun_spelling};
-ghost use Rattle.kola_top.specs.Stages.{text_in, greatest_length};
+ghost use Rattle.kola_top.specs.Stages.{text_in, rules_read, greatest_length};
 ghost use Rattle.kola_top.specs.Answer.{Answer, is_memory, report_of_form, unchanged_report};
-ghost use Rattle.kola_top.specs.StageLine.{at_place, at_schema, at_query_text, at_query, at_database, FromQueryText, OnItsWay};
+ghost use Rattle.kola_top.specs.StageLine.{at_place, at_schema, at_query, at_database, FromQueryText, FromQuery, OnItsWay};
 ghost use Rattle.kola_top.specs.Refusals.{Passes, Replies, is_told, status_of, line_of};
 ghost use Rattle.kola_top.specs.FormViews.{form_view};
 ghost use Rattle.kola_top.specs.Report.{report_text};
@@ -15,6 +15,7 @@ ghost use Rattle.kola_top.specs.Runs.{is_written};
 ghost use Rattle.kola_top.specs.SelectMeaning.{condition, is_below};
 ghost use Rattle.kola_top.specs.Words.{action_of};
 
+use crate::asked::{ask, translate_report};
 use crate::form::SelectForm;
 use crate::layout::sections;
 use crate::output::{Report, report_text};
@@ -33,7 +34,6 @@ use kola_schema::Schema;
 use kola_term::{LitSet, Term};
 use kola_text::print_term;
 use kola_values::Set;
-use oql_syntax::read_query;
 use std::alloc::Global;
 
 /// The status of an answer and the bytes that are written.
@@ -135,15 +135,6 @@ fn schema_of(alloc: Global, text: &[u8]) -> Result<Box<Schema>, Refusal>
     Ok(schema)
 }
 
-/// Reads the query that a text spells.
-fn read_whole_query(alloc: Global, text: &[u8]) -> Result<(), Refusal>
-    ensures { Passes (at_query_text text.now) (λ _. tt) result }
-{
-    let query = read_query(alloc, text)?;
-    drop(query);
-    Ok(())
-}
-
 /// The query of the form that a text is.
 fn form_of<'a>(alloc: Global, text: &'a [u8]) -> Result<SelectForm<'a>, Refusal>
     ensures { Passes (at_query text.now) form_view result }
@@ -171,24 +162,33 @@ fn database_of(alloc: Global, schema: &Schema, text: &[u8]) -> Result<(), Refusa
     }
 }
 
-/// What `run` reports on a job with a query at the place, or the first refusal behind the rules: a line for each stage.
+/// What `run` reports on a query's text and the text of the database, or the first refusal behind the rules.
 fn run_report(
     alloc: Global,
-    job: &[u8],
-    found: &Sections,
-    place: Span,
     schema: &Schema,
+    text: &[u8],
+    database: &[u8],
 ) -> Result<Vec<u8>, Refusal>
-    requires place { (place.from ≤ place.to) × (place.to ≤ length job.now) }
-    requires database { IfSome found.now.database (λ p. (p.from ≤ p.to) × (p.to ≤ length job.now)) }
-    ensures { Replies (λ v. v.items) (FromQueryText job.now found.now place schema.now) result }
+    ensures { Replies (λ v. v.items) (FromQueryText text.now schema.now
+        (λ _ _. FromQuery text.now database.now schema.now)) result }
 {
-    let text = text_in(job, Some(place));
-    read_whole_query(alloc, text)?;
+    let asked = ask(alloc, schema, text)?;
+    drop(asked);
     let form = form_of(alloc, text)?;
-    database_of(alloc, schema, text_in(job, found.database))?;
+    database_of(alloc, schema, database)?;
     let bytes = report_on(alloc, &form)?;
     Ok(bytes)
+}
+
+/// The text of the rules as an action reads it.
+fn rules_read<'a>(action: Action, job: &'a [u8], found: &Sections) -> &'a [u8]
+    requires { IfSome found.now.rules (λ p. (p.from ≤ p.to) × (p.to ≤ length job.now)) }
+    ensures { result.now ≡ rules_read action job.now found.now }
+{
+    match action {
+        Action::Translate => &[],
+        Action::Check | Action::Run => text_in(job, found.rules),
+    }
 }
 
 /// The report on a job of no more than the greatest length, or the first refusal on its way: a line for each stage.
@@ -199,11 +199,13 @@ fn report_of(alloc: Global, action: Action, job: &[u8]) -> Result<Vec<u8>, Refus
     let found = sections(job)?;
     let place = needed_place(action, &found)?;
     let schema = schema_of(alloc, text_in(job, found.schema))?;
-    let drafts = drafts_of(alloc, text_in(job, found.rules))?;
+    let drafts = drafts_of(alloc, rules_read(action, job, &found))?;
     let book = accept(alloc, schema, drafts)?;
+    let needed = text_in(job, Some(place));
     match action {
-        Action::Check => Ok(check_report(alloc, book.accepted.rules(), book.laws)?),
-        Action::Run => run_report(alloc, job, &found, place, book.accepted.schema()),
+        Action::Check => Ok(check_report(alloc, &book)?),
+        Action::Translate => translate_report(alloc, book.schema(), needed),
+        Action::Run => run_report(alloc, book.schema(), needed, text_in(job, found.database)),
     }
 }
 

@@ -3,14 +3,19 @@
 ghost use Rattle.std.specs.Prelude.{◌≡◌, ℕ, List};
 ghost use Rattle.kola_top.specs.Answer.{Answer};
 ghost use Rattle.kola_top.specs.Causes.{AnswersHaveCauses};
+ghost use Rattle.kola_top.specs.Deciding.{RulesAreDecided, HasNoRules};
 ghost use Rattle.kola_top.specs.declared.status.Status.{Status};
 
-/// Every list of words and every job have exactly one answer: it is not so that they have none, and they have no two.
+/// Every list of words and every job have no two answers; they have one where it is decided whether the drafts of the job are valid, as it is
+/// where there are none; and it is not so that they have none.
 pub fn a_job_has_exactly_one_answer()
-    ensures some { (words : List (List ℕ)) (job : List ℕ) →
-        ((s : Status) (b : List ℕ) → Answer words job s b → ⊥) → ⊥ }
     ensures one { (words : List (List ℕ)) (job : List ℕ) (s t : Status) (b c : List ℕ) →
         Answer words job s b → Answer words job t c → (s ≡ t) × (b ≡ c) }
+    ensures some { (words : List (List ℕ)) (job : List ℕ) →
+        RulesAreDecided words job → (s : Status) × ((b : List ℕ) × Answer words job s b) }
+    ensures decided { (words : List (List ℕ)) (job : List ℕ) → HasNoRules words job → RulesAreDecided words job }
+    ensures not_none { (words : List (List ℕ)) (job : List ℕ) →
+        ((s : Status) (b : List ℕ) → Answer words job s b → ⊥) → ⊥ }
 {}
 
 /// Each answer to the words and a job has the cause that its status names, and no earlier one: `Usage` words that are no command, `TooLong`

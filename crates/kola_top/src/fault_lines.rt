@@ -4,7 +4,7 @@ ghost use Rattle.std.specs.Prelude.{◌≡◌, ◌++◌, IfOk, OnOk};
 ghost use Rattle.std.specs.String.{string_bytes};
 ghost use Rattle.oql_syntax.specs.QueryAnswers.{why_cause};
 ghost use Rattle.oql_syntax.specs.QueryFaults.{CNotInProfile};
-ghost use Rattle.kola_top.specs.FaultLines.{schema_line, rules_line, rule_line, query_fault_line, name_field, text_field, number_field, at_number, database_fields, database_line};
+ghost use Rattle.kola_top.specs.FaultLines.{schema_line, rules_line, rule_line, query_fault_line, query_type_line, too_large_line, name_field, text_field, number_field, at_number, database_fields, database_line};
 
 use crate::output::query_line;
 use kola_base::TextWhy;
@@ -12,6 +12,7 @@ use kola_canon::{push_bytes, push_number, push_text};
 use kola_core::{Memory, Name, Text};
 use kola_load::{DbFault, SchemaWhy};
 use kola_proof::StepWhy;
+use oql_check::CheckWhy;
 use oql_syntax::QueryWhy;
 use std::alloc::{AllocError, Global};
 
@@ -61,6 +62,22 @@ pub fn query_fault_line(alloc: Global, at: usize, why: &QueryWhy) -> Result<Stri
         QueryWhy::NotInProfile { word } => not_in_profile_line(alloc, at, word),
         _ => query_line(alloc, at, why.name()),
     }
+}
+
+/// The line of a query that has no type, for what stands at a place in its text.
+pub fn query_type_line(alloc: Global, at: usize, why: CheckWhy) -> Result<String, AllocError>
+    ensures { IfOk result (λ s. string_bytes s ≡ query_type_line at why) }
+{
+    query_line(alloc, at, why.name())
+}
+
+/// The line of a query whose term is larger than a term may be.
+pub fn too_large_line(alloc: Global) -> Result<Vec<u8>, Memory>
+    ensures { IfOk result (λ v. v.items ≡ too_large_line) }
+{
+    let mut out = Vec::new(alloc);
+    push_bytes(&mut out, b"fault: term too large\n")?;
+    Ok(out)
 }
 
 fn push_name_field(out: &mut Vec<u8>, name: &Name) -> Result<(), Memory>

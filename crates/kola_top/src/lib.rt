@@ -3,6 +3,7 @@
 
 mod answer;
 mod answer_laws;
+mod asked;
 mod fault_lines;
 mod form;
 mod laws;

@@ -73,7 +73,8 @@ pub fn query_line(alloc: Global, at: usize, cause: &str) -> Result<String, Alloc
     format!(in alloc; "fault: query at {at}: {cause}\n")
 }
 
-fn push_line(out: &mut Vec<u8>, name: &[u8], says: &[u8]) -> Result<(), AllocError>
+/// Adds a line of a report: a name and what it says.
+pub fn push_line(out: &mut Vec<u8>, name: &[u8], says: &[u8]) -> Result<(), AllocError>
     ensures { OnOk result (out.new.items ≡ out.old.items ++ report_line name.now says.now) }
 {
     out.extend_from_slice(name)?;

@@ -4,7 +4,10 @@ ghost use Rattle.std.specs.Prelude.{◌≡◌, true, IfOk};
 ghost use Rattle.kola_top.specs.FaultLines.{not_built_line};
 ghost use Rattle.kola_top.specs.Refusals.{is_told, status_of, line_of};
 
-use crate::fault_lines::{database_line, query_fault_line, rule_line, rules_line, schema_line};
+use crate::fault_lines::{
+    database_line, query_fault_line, query_type_line, rule_line, rules_line, schema_line,
+    too_large_line,
+};
 use crate::layout::LayoutFault;
 use crate::output::{layout_fault_line, missing_line, query_line};
 use crate::section::Section;
@@ -13,6 +16,8 @@ use kola_base::{TextFault, TextWhy};
 use kola_core::{Memory, Name};
 use kola_load::{DbFault, SchemaFault, SchemaWhy};
 use kola_proof::{FileFault, StepWhy};
+use kola_translate::TranslateFault;
+use oql_check::{CheckFault, CheckWhy};
 use oql_syntax::{QueryFault, QueryWhy};
 use std::alloc::{AllocError, AllocFailed, Global};
 
@@ -31,6 +36,10 @@ pub enum Refusal {
     Rule(Name, usize, StepWhy),
     /// The query's text is refused, at a place in it.
     Query(usize, QueryWhy),
+    /// The query has no type, for what stands at a place in its text.
+    QueryType(usize, CheckWhy),
+    /// The query's term is larger than a term may be.
+    TermTooLarge,
     /// The query is none of those that can be answered.
     NotBuilt,
     /// The database's text is refused.
@@ -106,6 +115,34 @@ impl From<QueryFault> for Refusal {
     }
 }
 
+impl From<CheckFault> for Refusal {
+    ghost use Rattle.std.specs.Prelude.{◌≡◌};
+    ghost use Rattle.kola_top.specs.Refusals.{of_check};
+
+    ghost from_gives = { λ fault r. r ≡ of_check fault };
+
+    fn from(fault: CheckFault) -> Refusal {
+        match fault {
+            CheckFault::At { at, why } => Refusal::QueryType(at, why),
+            CheckFault::Memory => Refusal::Memory,
+        }
+    }
+}
+
+impl From<TranslateFault> for Refusal {
+    ghost use Rattle.std.specs.Prelude.{◌≡◌};
+    ghost use Rattle.kola_top.specs.Refusals.{of_translate};
+
+    ghost from_gives = { λ fault r. r ≡ of_translate fault };
+
+    fn from(fault: TranslateFault) -> Refusal {
+        match fault {
+            TranslateFault::TooLarge => Refusal::TermTooLarge,
+            TranslateFault::Memory => Refusal::Memory,
+        }
+    }
+}
+
 impl From<Memory> for Refusal {
     ghost use Rattle.std.specs.Prelude.{◌≡◌};
     ghost use Rattle.kola_top.specs.declared.refusal.Refusal.TheVariants.{Memory};
@@ -137,7 +174,8 @@ impl Refusal {
             Refusal::Layout(_) | Refusal::Missing(_, _) => Status::Layout,
             Refusal::Schema(_, _) => Status::Schema,
             Refusal::Rules(_, _) | Refusal::Rule(_, _, _) => Status::Rules,
-            Refusal::Query(_, _) | Refusal::NotBuilt => Status::Query,
+            Refusal::Query(_, _) | Refusal::QueryType(_, _) | Refusal::NotBuilt => Status::Query,
+            Refusal::TermTooLarge => Status::TermTooLarge,
             Refusal::Database(_) => Status::Database,
             Refusal::Memory => Status::Memory,
         }
@@ -159,6 +197,8 @@ impl Refusal {
                 Ok(rule_line(alloc, name, *step, *why)?.into_bytes())
             }
             Refusal::Query(at, why) => Ok(query_fault_line(alloc, *at, why)?.into_bytes()),
+            Refusal::QueryType(at, why) => Ok(query_type_line(alloc, *at, *why)?.into_bytes()),
+            Refusal::TermTooLarge => too_large_line(alloc),
             Refusal::NotBuilt => Ok(query_line(alloc, 0, "NotBuilt")?.into_bytes()),
             Refusal::Database(fault) => database_line(alloc, fault),
             Refusal::Memory => Err(AllocError),

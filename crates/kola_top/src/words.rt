@@ -11,6 +11,8 @@ use crate::section::Section;
 pub enum Action {
     /// Check the rules of a job with their proofs.
     Check,
+    /// Translate the query of a job to its term.
+    Translate,
     /// Answer the query of a job.
     Run,
 }
@@ -22,7 +24,7 @@ impl Action {
     {
         match self {
             Action::Check => Section::Rules,
-            Action::Run => Section::Query,
+            Action::Translate | Action::Run => Section::Query,
         }
     }
 }
@@ -33,6 +35,7 @@ pub fn action_of(words: &[String]) -> Option<Action>
 {
     match words {
         [word] if word.as_str() == "check" => Some(Action::Check),
+        [word] if word.as_str() == "translate" => Some(Action::Translate),
         [word] if word.as_str() == "run" => Some(Action::Run),
         _ => None,
     }

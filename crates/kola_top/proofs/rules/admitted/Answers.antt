@@ -6,7 +6,7 @@ use Rattle.kola_top.specs.StageLine.{at_rules}
 use Rattle.kola_top.specs.Refusals.{Refuses, IsOf}
 use Rattle.kola_top.proofs.RuleLines.{names_added, behind_within}
 use Rattle.kola_top.proofs.StageLaws.{handed_pass, file_refused}
-use Rattle.kola_top.proofs.rules.accept.Goals as goal
+use Rattle.kola_top.proofs.rules.admitted.Goals as goal
 
 pub returns-in_err-accepted-clause-answer : goal.returns-in_err-accepted-clause-answer
 returns-in_err-accepted-clause-answer c =

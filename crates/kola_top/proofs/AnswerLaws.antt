@@ -1,5 +1,5 @@
 -- The words and a job have at most one answer: it is that of a line of stages, of which each refuses in at most one way or accepts one thing.
-use Rattle.std.proofs.Common.{◌≡◌, ℕ, List, Some, None, Result, Ok, Err, refl, sym, ap, ◌∙◌, subst, arith, IsTrue}
+use Rattle.std.proofs.Common.{◌≡◌, ℕ, List, [], Some, None, Result, Ok, Err, refl, sym, ap, ◌∙◌, subst, arith}
 use Rattle.kola_top.specs.declared.section.Span.{Span}
 use Rattle.kola_top.specs.declared.section.Sections.{Sections}
 use Rattle.kola_top.specs.declared.words.Action.{Action}
@@ -15,27 +15,22 @@ use Rattle.kola_load.specs.SchemaAccepted.{greatest_nesting}
 use Rattle.kola_load.specs.declared.fault.DbFault.{DbFault}
 use Rattle.kola_load.specs.declared.fault.DbFault.TheVariants.{NotJson, Memory}
 use Rattle.kola_load.proofs.OneSchema.{one_schema, schema_or_fault, one_schema_fault}
-use Rattle.kola_base.specs.declared.text_fault.TextWhy.{TextWhy}
 use Rattle.kola_rule.specs.Rules.{DraftTree}
-use Rattle.kola_laws.specs.Laws.{laws}
-use Rattle.kola_proof.specs.declared.fault.StepWhy.{StepWhy}
 use Rattle.kola_top.specs.declared.words.Action.TheVariants.{Check, Translate, Run}
-use Rattle.kola_top.specs.declared.section.Section.TheVariants.{Rules, Query}
+use Rattle.kola_top.specs.declared.section.Section.TheVariants.{Query}
 use Rattle.oql_tree.specs.QueryTrees.{QueryTree}
 use Rattle.oql_check.proofs.OneFault.{one_type, not_both as typed_or_at_fault, one_fault as one_type_fault}
 use Rattle.kola_top.specs.Words.{action_of, needs}
-use Rattle.kola_top.specs.Layout.{place_of}
 use Rattle.kola_top.specs.SelectForm.{SelectForm, Says}
 use Rattle.kola_top.specs.FaultLines.{layout_fault_line, schema_line, rules_line, rule_line, query_fault_line, query_type_line, database_line}
 use Rattle.kola_top.specs.Report.{report_text}
-use Rattle.kola_top.specs.Runs.{is_written}
 use Rattle.kola_top.specs.Stages.{text_at, text_in, IsQuery, IsTaken, IsLaidOut, HasSections, HasSchema, rules_read, HasRulesText, HasRules, place_in, classes_in, found_in, HasQueryText, HasType, HasTerm, HasQuery}
 use Rattle.kola_top.specs.Answer.{IsRefused, report_of_translate, report_of_form, Answer, usage, too_long, layout, missing, schema, rules_text, rule, check_report, query_text, query_type, too_large, translate_report, query, database, run_report}
 use Rattle.kola_top.proofs.RulesLaws.{one_file, file_or_fault, one_rules_fault, one_bad_draft, valid_or_bad}
 use Rattle.kola_top.proofs.FoundLaws.{one_fault, one_layout}
 use Rattle.kola_top.proofs.FormLaws.{one_form}
 use Rattle.kola_top.proofs.QueryTextLaws.{one_query_of, spelled_or_at_fault, one_fault_of_query}
-use Rattle.kola_top.specs.Staged.{Says, Then, refused, onward, Nothing}
+use Rattle.kola_top.specs.Staged.{Says as Line, Then, refused, onward, Nothing}
 use Rattle.kola_top.specs.StageLine.{at_words, at_length, at_layout, at_place, at_schema, at_rules_text, at_rules, at_query_text, at_query_type, at_size, at_query, at_database, Reported, reported, FromDatabase, FromQuery, FromQueryText, BehindRules, FromRules, FromRulesText, FromSchema, FromPlace, OnItsWay, AllTheWay}
 use Rattle.kola_top.proofs.Staged.{One, IsOne, one_then}
 
@@ -80,15 +75,15 @@ not_refused S text _ j os (no_value h) a p = h j a
 
 -- ---- what comes behind a query's term
 
-abbrev Rest : Action → List ℕ → Sections → Span → Classes → QueryTree → TypeTree → Says
+abbrev Rest : Action → List ℕ → Sections → Span → Classes → QueryTree → TypeTree → Line
 Rest Check job found p S q t = Nothing
 Rest Translate job found p S q t = Reported (report_of_translate S q t)
 Rest Run job found p S q t = FromQuery (text_at job p) (text_in job found.database) S
 
-abbrev FromSize : Classes → (QueryTree → TypeTree → Says) → QueryTree → TypeTree → Says
+abbrev FromSize : Classes → (QueryTree → TypeTree → Line) → QueryTree → TypeTree → Line
 FromSize S rest q t = Then (at_size S q) (λ _. rest q t)
 
-abbrev FromType : Classes → (QueryTree → TypeTree → Says) → QueryTree → Says
+abbrev FromType : Classes → (QueryTree → TypeTree → Line) → QueryTree → Line
 FromType S rest q = Then (at_query_type S q) (FromSize S rest q)
 
 behind_asks : (a : Action) (job : List ℕ) (found : Sections) (p : Span) (S : Classes) (ds : List DraftTree) → needs a ≡ Query → (s : Status) (b : List ℕ) → FromQueryText (text_at job p) S (Rest a job found p S) s b → BehindRules a job found p S ds s b
@@ -223,12 +218,12 @@ module _ (words : List (List ℕ)) (job : List ℕ) where
   one_report : (text : List ℕ) → One (Reported text)
   one_report text _ _ _ _ reported reported = (refl, refl)
 
-  one_asked : (text : List ℕ) (S : Classes) (rest : QueryTree → TypeTree → Says) → ((q : QueryTree) (t : TypeTree) → One (rest q t)) → One (FromQueryText text S rest)
+  one_asked : (text : List ℕ) (S : Classes) (rest : QueryTree → TypeTree → Line) → ((q : QueryTree) (t : TypeTree) → One (rest q t)) → One (FromQueryText text S rest)
   one_asked text S rest each =
       one_then (at_query_text text) (FromType S rest) (one_spelled text) (λ q _. one_then (at_query_type S q) (FromSize S rest q) (one_typing S q) (λ t _. one_then (at_size S q) (λ _. rest q t) (one_fitting S q) (λ _ _. each q t)))
 
-  one_run : (text database : List ℕ) (S : Classes) → One (FromQuery text database S)
-  one_run text database S = one_then (at_query text) _ (one_select text) (λ f _. one_then (at_database S database) _ (one_objects S database) (λ _ _. one_report (report_text (report_of_form f))))
+  one_run : (text db : List ℕ) (S : Classes) → One (FromQuery text db S)
+  one_run text db S = one_then (at_query text) _ (one_select text) (λ f _. one_then (at_database S db) _ (one_objects S db) (λ _ _. one_report (report_text (report_of_form f))))
 
   one_behind : (a : Action) (found : Sections) (p : Span) (S : Classes) (ds : List DraftTree) → One (BehindRules a job found p S ds)
   one_behind Check found p S ds = one_report _

@@ -1,5 +1,5 @@
 -- The lines of the rules behind the laws, one after another.
-use Rattle.std.proofs.Common.{◌≡◌, ℕ, zero, suc, ◌+◌, ◌-◌, ◌<◌, ◌≤◌, List, [], ◌∷◌, ◌++◌, Some, None, drop, length, map, slice_get, refl, sym, ap, ◌∙◌, arith}
+use Rattle.std.proofs.Common.{◌≡◌, ℕ, zero, suc, ◌+◌, ◌-◌, ◌≤◌, List, [], ◌∷◌, ◌++◌, Some, None, drop, length, map, slice_get, refl, sym, ap, ◌∙◌, arith}
 use Rattle.std.specs.List.{flat_map}
 use Rattle.std.proofs.lemmas.List.{append-nil, append_assoc, drop_more, drop_all, length-append, length-drop, length-map}
 use Rattle.std.proofs.lemmas.Option.{slice_get_within, get_or_from_slice_get}
@@ -11,11 +11,11 @@ use Rattle.kola_proof.specs.Accepting.{rules_of}
 use Rattle.kola_top.specs.Report.{accepted_line}
 use Rattle.kola_top.specs.RulesViews.{names_behind}
 
--- there is an entry at each place within a list
-pub some_within : {X : Type 0} (xs : List X) (i : ℕ) → i < length xs → slice_get xs i ≡ None → ⊥
-some_within [] i h e = omega (arith, h)
-some_within (x ∷ xs) zero h e = absurd (cc)
-some_within (x ∷ xs) (suc i) h e = some_within xs i (omega (arith, h)) e
+-- where a list has no entry, it is over
+pub past_none : {X : Type 0} (xs : List X) (i : ℕ) → slice_get xs i ≡ None → length xs ≤ i
+past_none [] i e = omega arith
+past_none (x ∷ xs) zero e = absurd (cc)
+past_none (x ∷ xs) (suc i) e = let h = past_none xs i e in omega (arith, h)
 
 names_more : (rs : List Rule) (i : ℕ) (r : Rule) → slice_get rs i ≡ Some r → names_behind i rs ≡ r.name ∷ names_behind (i + 1) rs
 names_more rs i r e = ap (map (λ (q : Rule). q.name)) (drop_more rs i r (slice_get_within rs i r e) ∙ ap (λ q. q ∷ drop (i + 1) rs) (get_or_from_slice_get rs i r r e))

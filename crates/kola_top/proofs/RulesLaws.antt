@@ -1,15 +1,17 @@
 -- A text of rules writes one list of drafts or has one first fault; drafts are valid or have one first fault.
-use Rattle.std.proofs.Common.{◌≡◌, ◌⊎◌, ℕ, List}
+use Rattle.std.proofs.Common.{◌≡◌, ◌⊎◌, ℕ, List, [], ◌∷◌, length, map, arith}
 use Rattle.kola_base.specs.declared.text_fault.TextWhy.{TextWhy}
 use Rattle.kola_base.proofs.SpelledLaws.{one_spelled, spelled_or_fault, one_text_fault, read_once}
 use Rattle.kola_values.specs.Databases.{Classes}
 use Rattle.kola_rule.specs.Rules.{DraftTree}
+use Rattle.kola_rule.specs.RuleViews.{draft_tree}
+use Rattle.kola_rule.specs.declared.rule.Draft.{Draft}
 use Rattle.kola_laws.specs.Laws.{laws}
 use Rattle.coko_text.specs.Limits.{greatest_nesting}
 use Rattle.coko_text.specs.RuleGrammar.{FileText}
 use Rattle.coko_text.specs.RuleReaders.{file_at}
 use Rattle.coko_text.proofs.RuleLaws.{on_file, file_good}
-use Rattle.kola_proof.specs.Drafts.{AreValid, FirstBadDraft}
+use Rattle.kola_proof.specs.Drafts.{AreValid, no_draft, FirstBadDraft}
 use Rattle.kola_proof.specs.declared.fault.StepWhy.{StepWhy}
 use Rattle.kola_proof.proofs.FileFaults.{file_some, file_not_both, file_one}
 use Rattle.kola_top.specs.Stages.{WritesRules, IsRulesFault}
@@ -35,3 +37,7 @@ module _ (S : Classes) (ds : List DraftTree) where
 
   pub some_draft : (AreValid S laws ds → ⊥) → ((m : List ℕ) (n : ℕ) (w : StepWhy) → FirstBadDraft S laws ds m n w → ⊥) → ⊥
   some_draft refuse bad = file_some S laws ds refuse bad
+
+pub none_valid : (S : Classes) (ds : List Draft) → length ds ≡ 0 → AreValid S laws (map draft_tree ds)
+none_valid S [] e = no_draft
+none_valid S (d ∷ ds) e = absurd (omega (arith, e))

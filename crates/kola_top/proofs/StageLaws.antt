@@ -1,10 +1,12 @@
 -- From what each stage answers to the answer of the line.
-use Rattle.std.proofs.Common.{◌≡◌, ℕ, List, true, Result, Ok, Err, refl, sym, subst}
+use Rattle.std.proofs.Common.{◌≡◌, ℕ, List, true, Result, Ok, Err, IfErr, refl, sym, subst}
 use Rattle.kola_top.specs.declared.refusal.Refusal.{Refusal}
 use Rattle.kola_top.specs.declared.refusal.Refusal.TheVariants.{Layout, Missing, Schema, Rules, Rule, Query, QueryType, TermTooLarge, NotBuilt, Database, Memory}
 use Rattle.kola_top.specs.declared.status.Status.{Status}
-use Rattle.kola_top.specs.Staged.{Says, Stage, Then, refused, onward}
-use Rattle.kola_top.specs.StageLine.{at_schema, at_rules_text, at_rules, at_query_text, at_query_type, at_size}
+use Rattle.kola_top.specs.Staged.{Says, Stage, Then, refused, onward, Nothing}
+use Rattle.kola_top.specs.declared.asked.Asked.{Asked}
+use Rattle.kola_top.specs.AskedViews.{IsAsked}
+use Rattle.kola_top.specs.StageLine.{at_schema, at_rules_text, at_rules, at_query_text, at_query_type, at_size, FromQueryText}
 use Rattle.kola_top.specs.Refusals.{of_schema, of_rules, of_file, of_query, of_check, of_translate, is_told, status_of, line_of, Refuses, Replies, IsOf, Passes}
 use Rattle.std.specs.Result.{IsErrAnd}
 use Rattle.kola_load.specs.SchemaAccepted.{greatest_nesting, IsFault}
@@ -14,6 +16,7 @@ use Rattle.kola_load.specs.declared.schema_fault.SchemaFault.TheVariants as faul
 use Rattle.kola_base.specs.Spelled.{IsFault as IsTextFault}
 use Rattle.kola_base.specs.declared.text_fault.TextFault.{TextFault}
 use Rattle.kola_base.specs.declared.text_fault.TextFault.TheVariants as text
+use Rattle.kola_values.specs.Types.{TypeTree}
 use Rattle.kola_values.specs.Databases.{Classes}
 use Rattle.kola_rule.specs.Rules.{DraftTree}
 use Rattle.kola_laws.specs.Laws.{laws}
@@ -70,6 +73,24 @@ handed view A (Err e) P h f = f e h
 pub handed_pass : {F R T : Type 0} (g : Stage F R) (view : T → R) (r : Result T Refusal) (P : Refusal → Type 0) → IsErrAnd r P → ((e : Refusal) → P e → Refuses (IsOf g) e) → Passes g view r
 handed_pass g view (Ok x) P h f = absurd h
 handed_pass g view (Err e) P h f = f e h
+
+pub handed_on : {T : Type 0} (A : Says) (r : Result T Refusal) (P : Refusal → Type 0) → IsErrAnd r P → ((e : Refusal) → P e → Refuses A e) → IfErr r (Refuses A)
+handed_on A (Ok x) P h f = tt
+handed_on A (Err e) P h f = f e h
+
+-- a query that is refused is refused whatever comes behind its term
+module _ (text : List ℕ) (S : Classes) (rest : QueryTree → TypeTree → Says) where
+  early : (s : Status) (b : List ℕ) → FromQueryText text S (λ _ _. Nothing) s b → FromQueryText text S rest s b
+  early _ _ (refused e p) = refused e p
+  early s b (onward q _ _ p (refused e h)) = onward q s b p (refused e h)
+  early s b (onward q _ _ p (onward t _ _ h (refused e k))) = onward q s b p (onward t s b h (refused e k))
+  early s b (onward q _ _ p (onward t _ _ h (onward u _ _ k n))) = elim n [ ]
+
+  pub refused_early : (r : Refusal) → Refuses (FromQueryText text S (λ _ _. Nothing)) r → Refuses (FromQueryText text S rest) r
+  refused_early r h = refuses_too (FromQueryText text S (λ _ _. Nothing)) (FromQueryText text S rest) early r h
+
+pub asked_on : (S : Classes) (text : List ℕ) (a : Asked) (rest : QueryTree → TypeTree → Says) → IsAsked S text a → (s : Status) (b : List ℕ) → rest a.typed.value.0 a.typed.value.1 s b → FromQueryText text S rest s b
+asked_on S text a rest i s b k = onward a.typed.value.0 s b i.spells (onward a.typed.value.1 s b i.typed (onward tt s b i.fits k))
 
 pub schema_refused : (text : List ℕ) (f : SchemaFault) → IsFault greatest_nesting text f → Refuses (IsOf (at_schema text)) (of_schema f)
 schema_refused text (At at why) h = ((at, why), h, refl, refl)

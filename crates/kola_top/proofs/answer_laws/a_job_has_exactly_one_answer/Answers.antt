@@ -1,4 +1,4 @@
-use Rattle.std.proofs.Common.{◌≡◌, ◌⊎◌, ℕ, List, [], inl, inr, sym, subst}
+use Rattle.std.proofs.Common.{◌⊎◌, ℕ, List, inl, inr, sym, subst}
 use Rattle.kola_values.specs.Databases.{Classes}
 use Rattle.kola_rule.specs.Rules.{DraftTree}
 use Rattle.kola_laws.specs.Laws.{laws}

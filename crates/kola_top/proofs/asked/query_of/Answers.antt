@@ -2,7 +2,7 @@ use Rattle.std.proofs.Common.{sym, subst}
 use Rattle.kola_top.specs.StageLine.{at_query_text}
 use Rattle.kola_top.specs.Refusals.{Refuses, IsOf}
 use Rattle.kola_top.proofs.StageLaws.{handed_pass, query_refused}
-use Rattle.kola_top.proofs.answer.read_whole_query.Goals as goal
+use Rattle.kola_top.proofs.asked.query_of.Goals as goal
 
 pub returns-in_err-query : goal.returns-in_err-query
 returns-in_err-query c =

@@ -4,7 +4,8 @@ use crate::queries::{is_printed, query};
 use crate::samples::{Broken, schema};
 use kola_canon::type_text;
 use oql_check::{CheckFault, CheckWhy, Typed, check_query};
-use oql_syntax::{Query, print_query};
+use oql_print::print_query;
+use oql_tree::Query;
 use std::alloc::Global;
 use std::test::Fail;
 

@@ -67,12 +67,6 @@ fn is_told(
     is_answered(alloc, action, job.as_bytes().to_vec(alloc)?, due, written)
 }
 
-#[test]
-fn a_query_is_reported_in_nine_lines(rt: HostRuntime) -> Result<(), Fail> {
-    assert!(rt; is_told(rt.alloc(), "run", JOB, Status::Ok, REPORT)?);
-    Ok(())
-}
-
 /// The status where the read of this number fails; each read gives one byte.
 fn run_with_failing_read(
     alloc: Global,
@@ -93,17 +87,47 @@ fn ends_at_read(alloc: Global, fail: u64, due: Status, written: &str) -> Result<
     Ok(status == due && has_taken(&sink, written))
 }
 
+/// The words, the job, its status and what is written.
+const REPORTS: &[(&str, &str, Status, &str)] = &[
+    ("run", JOB, Status::Ok, REPORT),
+    (
+        "check",
+        "%% rules\nrule r (f: a -> b) at a: (id o f) = f proof (id o f) = f by id_left at here qed\n",
+        Status::Ok,
+        "rule r ok\nrules: 1\nblocks: 0\n",
+    ),
+    ("check", "%% rules\n", Status::Ok, "rules: 0\nblocks: 0\n"),
+    (
+        "translate",
+        JOB,
+        Status::Ok,
+        "query: (iter((lt @ <snd, K(3)>), snd) o <id, K({1, 2, 3})>)\ntype: set<int>\n",
+    ),
+    (
+        "translate",
+        "%% rules\nno rules\n%% query\nstruct(a: 1, b: \"x\").b",
+        Status::Ok,
+        "query: (snd o <K(1), K(\"x\")>)\ntype: string\n",
+    ),
+    (
+        "translate",
+        "%% query\n1 in 2",
+        Status::Query,
+        "fault: query at 2: NotASet\n",
+    ),
+    (
+        "run",
+        "%% rules\nrule r (f: a -> b) at a: (id o f) = f proof f qed\n%% query\n1 in 2",
+        Status::Rules,
+        "fault: rule r step 0: FirstIsNotLeft\n",
+    ),
+];
+
 #[test]
-fn each_rule_that_is_accepted_has_its_line(rt: HostRuntime) -> Result<(), Fail> {
-    let alloc = rt.alloc();
-    let job =
-        "%% rules\nrule r (f: a -> b) at a: (id o f) = f proof (id o f) = f by id_left at here qed\n";
-    let (status, sink) = answered(alloc, "check", job.as_bytes().to_vec(alloc)?)?;
-    assert_eq!(rt; status, Status::Ok);
-    assert_eq!(rt;
-        sink.bytes(),
-        b"rule r ok\nrules: 1\nblocks: 0\n".as_slice()
-    );
+fn each_action_has_its_report(rt: HostRuntime) -> Result<(), Fail> {
+    for (action, job, status, written) in REPORTS {
+        assert!(rt; is_told(rt.alloc(), action, job, *status, written)?);
+    }
     Ok(())
 }
 

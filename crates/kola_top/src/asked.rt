@@ -80,7 +80,8 @@ pub fn ask(alloc: Global, schema: &Schema, text: &[u8]) -> Result<Asked, Refusal
 
 /// The report on a query's term and its type.
 fn translate_text(alloc: Global, asked: &Asked) -> Result<Vec<u8>, Memory>
-    ensures { IfOk result (λ v. v.items ≡ translate_text (term_spelling (term_tree asked.now.term.value)) (type_spelling asked.now.typed.value.1)) }
+    ensures { IfOk result (λ v. v.items
+        ≡ translate_text (term_spelling (term_tree asked.now.term.value)) (type_spelling asked.now.typed.value.1)) }
 {
     let term = print_term(alloc, &asked.term)?;
     let ty = type_text(alloc, asked.typed.ty())?;

@@ -1,5 +1,5 @@
-//! The public calls of the crates below, each with ample memory and its answer compared: what no clause says. Nothing else
-//! stands here.
+//! The public calls of the crates below the top call, each with ample memory and its answer compared: what no clause says.
+//! Nothing else stands here.
 #![tactic(auto)]
 
 #[cfg(test)]
@@ -14,10 +14,6 @@ mod databases;
 mod injective;
 #[cfg(test)]
 mod instances;
-#[cfg(test)]
-mod jobs;
-#[cfg(test)]
-mod layouts;
 #[cfg(test)]
 mod names;
 #[cfg(test)]

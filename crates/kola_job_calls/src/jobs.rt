@@ -87,9 +87,26 @@ fn ends_at_read(alloc: Global, fail: u64, due: Status, written: &str) -> Result<
     Ok(status == due && has_taken(&sink, written))
 }
 
+/// Pairs of numbers, the first of each below the second, as structs.
+const TWO_RANGES: &str = "%% query
+select distinct struct(low: x, high: y) from x in set(3, 1, 2), y in set(2, 1, 2) where x < y";
+
+const TWO_RANGES_REPORT: &str = "query: \
+(flat o (iter(KP(true), (iter((lt @ <(snd o fst), snd>), <(snd o fst), snd>) o <id, K({1, 2})>)) o <id, K({1, 2, 3})>))\n\
+block: -\n\
+plan: \
+(flat o (iter(KP(true), (iter((lt @ <(snd o fst), snd>), <(snd o fst), snd>) o <id, K({1, 2})>)) o <id, K({1, 2, 3})>))\n\
+outcome: done\n\
+ok: true\n\
+firings: 0\n\
+steps: 1\n\
+visits: 11\n\
+result: {struct(low: 1, high: 2)}\n";
+
 /// The words, the job, its status and what is written.
 const REPORTS: &[(&str, &str, Status, &str)] = &[
     ("run", JOB, Status::Ok, REPORT),
+    ("run", TWO_RANGES, Status::Ok, TWO_RANGES_REPORT),
     (
         "check",
         "%% rules\nrule r (f: a -> b) at a: (id o f) = f proof (id o f) = f by id_left at here qed\n",
@@ -244,8 +261,8 @@ const QUERIES: [(&str, &str); 6] = [
         "fault: query at 7: NotInProfile select\n",
     ),
     (
-        "SELECT distinct x from x in set(1) where x < 3",
-        "fault: query at 0: NotBuilt\n",
+        "select distinct y from x in set(1) where x < 3",
+        "fault: query at 16: UnknownName\n",
     ),
     (
         "select distinct x from x in set(9223372036854775808) where x < 3",
@@ -331,7 +348,7 @@ fn each_front_of_a_job_is_answered(rt: HostRuntime) -> Result<(), Fail> {
     let bytes = job.len();
     for left in 0..bytes {
         let status = status_of(rt.alloc(), &job, bytes - left)?;
-        // Without the 11 or 12 bytes of its condition it is a query of the form too; its header is whole up to 56 bytes before the end.
+        // Without the 11 or 12 bytes of its condition it is a query too; its header is whole up to 56 bytes before the end.
         let due = match left {
             0 | 11 | 12 => Status::Ok,
             1..=56 => Status::Query,

@@ -11,6 +11,8 @@ mod checks;
 #[cfg(test)]
 mod databases;
 #[cfg(test)]
+mod evaluations;
+#[cfg(test)]
 mod injective;
 #[cfg(test)]
 mod instances;

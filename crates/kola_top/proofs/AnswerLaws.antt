@@ -22,7 +22,7 @@ use Rattle.oql_check.proofs.OneFault.{one_type, not_both as typed_or_at_fault, o
 use Rattle.kola_top.specs.Words.{action_of, needs}
 use Rattle.kola_top.specs.FaultLines.{layout_fault_line, schema_line, rules_line, rule_line, query_fault_line, query_type_line, database_line}
 use Rattle.kola_top.specs.Report.{report_text}
-use Rattle.kola_top.specs.Stages.{text_at, text_in, IsQuery, IsTaken, IsLaidOut, HasSections, HasSchema, rules_read, HasRulesText, HasRules, place_in, classes_in, found_in, HasQueryText, HasType, HasTerm, schema_in, sections_in, query_in, HasDatabase, WritesObjects}
+use Rattle.kola_top.specs.Stages.{text_at, text_in, IsTaken, IsLaidOut, HasSections, HasSchema, rules_read, HasRulesText, HasRules, place_in, classes_in, found_in, HasQueryText, HasType, HasTerm, schema_in, sections_in, query_in, HasDatabase, WritesObjects}
 use Rattle.kola_top.specs.Answer.{IsRefused, report_of_translate, report_of_run, Answer, usage, too_long, layout, missing, schema, rules_text, rule, check_report, query_text, query_type, too_large, translate_report, database, visits, run_report}
 use Rattle.kola_top.proofs.RulesLaws.{one_file, file_or_fault, one_rules_fault, one_bad_draft, valid_or_bad}
 use Rattle.kola_top.proofs.FoundLaws.{one_fault, one_layout}

@@ -1,11 +1,12 @@
 -- What the program's answers on the value of a query say.
-use Rattle.std.specs.Prelude.{◌≡◌, ◌≤◌, ℕ, List, [], Result, Ok, Err}
+use Rattle.std.specs.Prelude.{◌≡◌, ◌≤◌, ℕ, Bool, true, false, List, [], Result, Ok, Err}
 use Rattle.kola_values.specs.Values.{ValueTree, VUnit}
 use Rattle.kola_values.specs.Types.{TypeTree}
 use Rattle.kola_values.specs.Shapes.{Shaped}
 use Rattle.kola_values.specs.Databases.{Classes, Objects}
 use Rattle.kola_canon.specs.Encoding.{enc}
 use Rattle.kola_canon.specs.Spelling.{value_spelling}
+use Rattle.kola_term.specs.Terms.{TermTree, TermF}
 use Rattle.kola_term.specs.Visits.{visits}
 use Rattle.oql_tree.specs.QueryTrees.{QueryTree}
 use Rattle.oql_check.specs.QueryMeaning.{mean}
@@ -15,6 +16,10 @@ use Rattle.kola_top.specs.declared.valued.Valued.{Valued}
 use Rattle.kola_top.specs.Stages.{visit_limit}
 use Rattle.kola_top.specs.StageLine.{at_visits}
 use Rattle.kola_top.specs.Refusals.{Refuses, IsOf}
+
+abbrev pub is_function : TermTree → Bool
+is_function (TermF f) = true
+is_function _ = false
 
 -- the text is that of the value of the type whose encoding is v
 pub record IsText (t : TypeTree) (v : ValueTree) (text : List ℕ) : Type 0 where

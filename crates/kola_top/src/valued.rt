@@ -1,20 +1,20 @@
 //! What a query comes to in a database: the text of its value, and how many members its term visits.
 
-ghost use Rattle.std.specs.Prelude.{◌≡◌, IfOk, IsPermutation};
+ghost use Rattle.std.specs.Prelude.{◌≡◌, true, IfOk, IsPermutation};
 ghost use Rattle.kola_values.specs.Values.{VUnit};
 ghost use Rattle.kola_values.specs.Shapes.{Shaped};
 ghost use Rattle.kola_values.specs.Views.{value_tree};
 ghost use Rattle.kola_values.specs.Databases.{Objects};
 ghost use Rattle.kola_database.specs.Stored.{IsUnder};
 ghost use Rattle.kola_canon.specs.Encoding.{enc_type};
-ghost use Rattle.kola_term.specs.Terms.{FunTree, TermF};
+ghost use Rattle.kola_term.specs.Terms.{TermF};
 ghost use Rattle.kola_term.specs.TermView.{fun_tree, term_tree};
 ghost use Rattle.kola_term.specs.Meaning.{den};
 ghost use Rattle.kola_term.specs.Visits.{visits};
 ghost use Rattle.kola_top.specs.AskedViews.{IsReady};
 ghost use Rattle.kola_top.specs.Refusals.{Passes};
 ghost use Rattle.kola_top.specs.StageLine.{at_visits};
-ghost use Rattle.kola_top.specs.Valued.{IsText, IsValued};
+ghost use Rattle.kola_top.specs.Valued.{is_function, IsText, IsValued};
 
 use crate::asked::Asked;
 use crate::refusal::Refusal;
@@ -40,9 +40,8 @@ pub struct Valued {
 
 /// The function that a term is.
 fn function_of(term: &Term) -> &Fun
-    ghost f: { FunTree }
-    requires { term_tree term.now ≡ TermF f }
-    ensures { fun_tree result.now ≡ f }
+    requires { is_function (term_tree term.now) ≡ true }
+    ensures { TermF (fun_tree result.now) ≡ term_tree term.now }
 {
     match term {
         Term::F(f) => f,

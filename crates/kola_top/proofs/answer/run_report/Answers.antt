@@ -1,4 +1,6 @@
 use Rattle.std.proofs.Common.{◌≡◌, sym, ap, ◌∙◌, subst}
+use Rattle.kola_values.specs.Types.{TypeTree}
+use Rattle.oql_tree.specs.QueryTrees.{QueryTree}
 use Rattle.kola_text.specs.Spelling.{term_spelling, fun_spelling}
 use Rattle.kola_translate.specs.Translation.{translation}
 use Rattle.kola_top.specs.declared.status.Status.TheVariants as statuses
@@ -14,7 +16,7 @@ pub returns-in_err-asked : goal.returns-in_err-asked
 returns-in_err-asked c =
     let S = c.args.schema.now in
     let text = c.args.text.now in
-    let rest = λ q _. FromDatabase c.args.database.now S q in
+    let rest = λ (x : QueryTree) (_ : TypeTree). FromDatabase c.args.database.now S x in
     let way = FromQueryText text S rest in
     handed _ way c.from_residual.result _ c.from_residual.ensures.1
     (λ e i. subst (Refuses way) (sym i) (refused_early text S rest c.in_err-asked.field-0.0 c.in_err-asked.ensures.refused))
@@ -25,7 +27,7 @@ returns-in_err-db c =
     let text = c.args.text.now in
     let database = c.args.database.now in
     let q = c.in_ok-asked.asked.typed.value.0 in
-    let rest = λ x _. FromDatabase database S x in
+    let rest = λ (x : QueryTree) (_ : TypeTree). FromDatabase database S x in
     let way = FromQueryText text S rest in
     let r = c.in_err-db.field-0.0 in
     handed _ way c.from_residual-in_err-db.result _ c.from_residual-in_err-db.ensures.1
@@ -39,7 +41,7 @@ returns-in_err-valued c =
     let text = c.args.text.now in
     let database = c.args.database.now in
     let q = c.in_ok-asked.asked.typed.value.0 in
-    let rest = λ x _. FromDatabase database S x in
+    let rest = λ (x : QueryTree) (_ : TypeTree). FromDatabase database S x in
     let way = FromQueryText text S rest in
     let r = c.in_err-valued.field-0.0 in
     let l = c.in_ok-db.ensures.loaded in

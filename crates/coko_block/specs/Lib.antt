@@ -1,3 +1,5 @@
 pub mod Statements
 pub mod StmtViews
 pub mod Models
+pub mod Files
+pub mod FileViews

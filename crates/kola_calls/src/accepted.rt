@@ -37,15 +37,16 @@ fn said_of(answer: &Result<(), AdmitFault>) -> Verdict {
     }
 }
 
-fn admitted(accepted: &mut Accepted, draft: Box<Draft>) -> Verdict {
-    let answer = accepted.admit(Box::into_inner(draft));
-    said_of(&answer)
+/// What is said of a draft; the answer, which may hand the draft back, is boxed, which costs less to prove.
+fn admitted(alloc: Global, accepted: &mut Accepted, draft: Box<Draft>) -> Result<Verdict, Broken> {
+    let answer = boxed(alloc, accepted.admit(Box::into_inner(draft)))?;
+    Ok(said_of(&answer))
 }
 
 /// What is said of the last rule of a text.
 fn told(alloc: Global, accepted: &mut Accepted, text: &str) -> Result<Verdict, Broken> {
     match last_draft(alloc, text)? {
-        Some(draft) => Ok(admitted(accepted, draft)),
+        Some(draft) => admitted(alloc, accepted, draft),
         None => Err(Broken::Refused),
     }
 }

@@ -1,7 +1,7 @@
 //! The types of queries, and the first fault of each query that has none.
 
 use crate::queries::{is_printed, query};
-use crate::samples::{Broken, schema};
+use crate::samples::{Broken, boxed, schema};
 use kola_canon::type_text;
 use oql_check::{CheckFault, CheckWhy, Typed, check_query};
 use oql_print::print_query;
@@ -13,9 +13,10 @@ use std::test::Fail;
 type Checked = Result<Typed, (CheckFault, Query)>;
 
 /// What the check answers for a query.
-fn checked(alloc: Global, query: Box<Query>) -> Result<Checked, Broken> {
+fn checked(alloc: Global, query: Box<Query>) -> Result<Box<Checked>, Broken> {
     let schema = schema(alloc)?;
-    Ok(check_query(alloc, &schema, Box::into_inner(query)))
+    let checked = check_query(alloc, &schema, Box::into_inner(query));
+    Ok(boxed(alloc, checked)?)
 }
 
 /// Whether the query has this type, and is printed so.

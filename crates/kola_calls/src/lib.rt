@@ -1,5 +1,5 @@
-//! The public calls of the crates below, each with ample memory and its answer compared: what no clause says. Nothing else
-//! stands here.
+//! The public calls of the crates below the top call, each with ample memory and its answer compared: what no clause says.
+//! Nothing else stands here.
 #![tactic(auto)]
 
 #[cfg(test)]
@@ -11,13 +11,11 @@ mod checks;
 #[cfg(test)]
 mod databases;
 #[cfg(test)]
+mod evaluations;
+#[cfg(test)]
 mod injective;
 #[cfg(test)]
 mod instances;
-#[cfg(test)]
-mod jobs;
-#[cfg(test)]
-mod layouts;
 #[cfg(test)]
 mod names;
 #[cfg(test)]

@@ -1,14 +1,11 @@
 -- The words and a job have an answer where it is decided whether the drafts of the job are valid: each other stage refuses or goes on.
 use Rattle.std.proofs.Common.{◌≡◌, ◌⊎◌, ℕ, ◌≤◌, Bool, true, false, nat_lt, nat_le, List, [], length, Option, Some, None, Result, Ok, Err, inl, inr, refl, arith}
 use Rattle.std.proofs.lemmas.Bool.Decides.{nat_tests}
-use Rattle.kola_base.specs.declared.lex.Token.{Token}
-use Rattle.kola_base.specs.declared.lex.LexWhy.{LexWhy}
-use Rattle.kola_base.specs.Tokens.{AreTokens, StopsAt}
-use Rattle.kola_base.specs.Lexemes.{lexemes}
-use Rattle.kola_base.proofs.Total.{tokens_or_fault}
 use Rattle.kola_values.specs.Types.{TypeTree, TUnit}
-use Rattle.kola_values.specs.Databases.{Classes}
+use Rattle.kola_values.specs.Values.{VUnit}
+use Rattle.kola_values.specs.Databases.{Classes, Objects}
 use Rattle.kola_term.specs.Terms.{FunTree, TermF}
+use Rattle.kola_term.specs.Visits.{visits}
 use Rattle.kola_term.specs.Counts.{fun_nodes, fun_depth}
 use Rattle.kola_term.specs.Limits.{node_limit, depth_limit}
 use Rattle.kola_term.specs.Faults.{Fine, FaultAt, TypeWhy}
@@ -37,18 +34,14 @@ use Rattle.kola_top.specs.declared.status.Status.{Status}
 use Rattle.kola_top.specs.Words.{action_of, needs}
 use Rattle.kola_top.specs.Layout.{lines_of, place_of}
 use Rattle.kola_top.specs.Scan.{walk, start}
-use Rattle.kola_top.specs.SelectForm.{SelectForm}
-use Rattle.kola_top.specs.FormReader.{form}
 use Rattle.kola_top.specs.Staged.{Says, Stage, Then}
-use Rattle.kola_top.specs.Stages.{greatest_length, text_at, text_in, rules_read, WritesRules, IsRulesFault, IsQueryReading, HasRulesText}
+use Rattle.kola_top.specs.Stages.{greatest_length, visit_limit, text_at, text_in, rules_read, WritesRules, IsRulesFault, HasRulesText}
 use Rattle.kola_top.specs.Answer.{is_memory, report_of_translate, Answer}
-use Rattle.kola_top.specs.StageLine.{at_words, at_length, at_layout, at_place, at_schema, at_rules_text, at_rules, at_query_text, at_query_type, at_size, at_query, at_database, Reported, reported, FromQuery, FromQueryText, BehindRules, FromRules, AllTheWay}
+use Rattle.kola_top.specs.StageLine.{at_words, at_length, at_layout, at_place, at_schema, at_rules_text, at_rules, at_query_text, at_query_type, at_size, at_database, at_visits, Reported, reported, FromDatabase, FromQueryText, BehindRules, FromRules, AllTheWay}
 use Rattle.kola_top.proofs.Staged.{Some as SomeAnswer, Goes, Decides, goes_on, some_then}
 use Rattle.kola_top.proofs.RulesLaws.{file_once, some_draft}
 use Rattle.kola_top.proofs.AnswerLaws.{wholly_answered}
 use Rattle.kola_top.proofs.FoundLaws.{IsLayout, walk_is}
-use Rattle.kola_top.proofs.FormReads.{form_reads}
-use Rattle.kola_top.proofs.QueryReading.{read_query, no_query}
 use Rattle.kola_top.proofs.QueryTextLaws.{spelled_once}
 use Rattle.oql_tree.specs.QueryTrees.{QueryTree}
 use Rattle.oql_syntax.specs.QueryFaults.{QueryCause}
@@ -112,8 +105,15 @@ database_goes : (S : Classes) (text : List ℕ) → Decides (at_database S text)
 database_goes S text = by (an_answer S text)
   where
     by : HasAnswer S text → Decides (at_database S text)
-    by (inl h) = inr (tt, (h.0, h.1, h.2, h.3))
+    by (inl h) = inr (h.1, (h.0, h.2, h.3))
     by (inr h) = inl (h.0, (not_memory h.0 h.1, h.2))
+
+visits_go : (S : Classes) (os : Objects) (f : FunTree) → Decides (at_visits S os f)
+visits_go S os f = by (nat_le (visits S os f VUnit) visit_limit) refl
+  where
+    by : (b : Bool) → nat_le (visits S os f VUnit) visit_limit ≡ b → Decides (at_visits S os f)
+    by true e = inr (tt, grind (arith, nat_tests, e))
+    by false e = inl (tt, grind (arith, nat_tests, e))
 
 module _ (words : List (List ℕ)) (job : List ℕ) where
   words_go : Decides (at_words words)
@@ -144,17 +144,6 @@ module _ (words : List (List ℕ)) (job : List ℕ) where
       by None e = inl (tt, e)
       by (Some p) e = inr (p, e)
 
-  query_goes : (text : List ℕ) → Decides (at_query text)
-  query_goes text = by (tokens_or_fault text)
-    where
-      read : (o : Option SelectForm) → IsQueryReading text o → Decides (at_query text)
-      read None h = inl (tt, h)
-      read (Some f) h = inr (f, h)
-
-      by : ((ts : List Token) × AreTokens ts text) ⊎ ((at : ℕ) × (why : LexWhy) × StopsAt text at why) → Decides (at_query text)
-      by (inl t) = let ls = lexemes text t.0 in read (form ls) (read_query text t.0 ls (form ls) t.1 refl (form_reads ls (form ls) refl))
-      by (inr s) = inl (tt, λ f q. no_query text s.0 s.1 f s.2 q)
-
   -- what is claimed of the answer, and that the stage of the rules refuses or goes on to it
   module _ (Z : Type 0) (rules_go : (a : Action) (r : HasRulesText words job a) → Goes Z (at_rules r.before.classes r.drafts)) where
     past : {F R : Type 0} (g : Stage F R) (rest : R → Says) → Decides g → ((x : R) → g.accepts x → SomeAnswer Z (rest x)) → SomeAnswer Z (Then g rest)
@@ -165,13 +154,13 @@ module _ (words : List (List ℕ)) (job : List ℕ) where
         past (at_query_text text) (λ q. Then (at_query_type S q) (λ t. Then (at_size S q) (λ _. rest q t))) (text_goes text) (λ q _. past (at_query_type S q) (λ t. Then (at_size S q) (λ _. rest q t)) (type_goes S q) (λ t _.
         past (at_size S q) (λ _. rest q t) (size_goes S q) (λ _ _. each q t)))
 
-    run_some : (text database : List ℕ) (S : Classes) → SomeAnswer Z (FromQuery text database S)
-    run_some text database S = past (at_query text) _ (query_goes text) (λ f _. past (at_database S database) _ (database_goes S database) (λ _ _ say. say _ _ reported))
+    run_some : (database : List ℕ) (S : Classes) (q : QueryTree) → SomeAnswer Z (FromDatabase database S q)
+    run_some database S q = past (at_database S database) _ (database_goes S database) (λ os _. past (at_visits S os (translation S q)) _ (visits_go S os (translation S q)) (λ _ _ say. say _ _ reported))
 
     behind_some : (a : Action) (found : Sections) (p : Span) (S : Classes) (ds : List DraftTree) → SomeAnswer Z (BehindRules a job found p S ds)
     behind_some Check found p S ds = λ say. say _ _ reported
     behind_some Translate found p S ds = asked_some (text_at job p) S (λ q t. Reported (report_of_translate S q t)) (λ _ _ say. say _ _ reported)
-    behind_some Run found p S ds = asked_some (text_at job p) S (λ _ _. FromQuery (text_at job p) (text_in job found.database) S) (λ _ _. run_some (text_at job p) (text_in job found.database) S)
+    behind_some Run found p S ds = asked_some (text_at job p) S (λ q _. FromDatabase (text_in job found.database) S q) (λ q _. run_some (text_in job found.database) S q)
 
     rules_some : (a : Action) (r : HasRulesText words job a) → SomeAnswer Z (FromRules a job r.before.before.before.found r.before.before.place r.before.classes r.drafts)
     rules_some a r = some_then Z (at_rules r.before.classes r.drafts) _ (rules_go a r) (λ _ _. behind_some a r.before.before.before.found r.before.before.place r.before.classes r.drafts)

@@ -4,8 +4,6 @@ use Rattle.kola_top.specs.declared.section.Span.{Span}
 use Rattle.kola_top.specs.declared.section.Sections.{Sections}
 use Rattle.kola_top.specs.declared.words.Action.{Action}
 use Rattle.kola_top.specs.declared.status.Status.{Status}
-use Rattle.kola_base.specs.Lexemes.{lexemes}
-use Rattle.kola_base.proofs.OneCut.{one_list}
 use Rattle.kola_values.specs.Types.{TypeTree}
 use Rattle.kola_values.specs.Databases.{Classes, Objects}
 use Rattle.serde_json.specs.Data.{Data}
@@ -19,25 +17,19 @@ use Rattle.kola_rule.specs.Rules.{DraftTree}
 use Rattle.kola_top.specs.declared.words.Action.TheVariants.{Check, Translate, Run}
 use Rattle.kola_top.specs.declared.section.Section.TheVariants.{Query}
 use Rattle.oql_tree.specs.QueryTrees.{QueryTree}
+use Rattle.kola_translate.specs.Translation.{translation}
 use Rattle.oql_check.proofs.OneFault.{one_type, not_both as typed_or_at_fault, one_fault as one_type_fault}
 use Rattle.kola_top.specs.Words.{action_of, needs}
-use Rattle.kola_top.specs.SelectForm.{SelectForm, Says}
 use Rattle.kola_top.specs.FaultLines.{layout_fault_line, schema_line, rules_line, rule_line, query_fault_line, query_type_line, database_line}
 use Rattle.kola_top.specs.Report.{report_text}
-use Rattle.kola_top.specs.Stages.{text_at, text_in, IsQuery, IsTaken, IsLaidOut, HasSections, HasSchema, rules_read, HasRulesText, HasRules, place_in, classes_in, found_in, HasQueryText, HasType, HasTerm, HasQuery}
-use Rattle.kola_top.specs.Answer.{IsRefused, report_of_translate, report_of_form, Answer, usage, too_long, layout, missing, schema, rules_text, rule, check_report, query_text, query_type, too_large, translate_report, query, database, run_report}
+use Rattle.kola_top.specs.Stages.{text_at, text_in, IsTaken, IsLaidOut, HasSections, HasSchema, rules_read, HasRulesText, HasRules, place_in, classes_in, found_in, HasQueryText, HasType, HasTerm, schema_in, sections_in, query_in, HasDatabase, WritesObjects}
+use Rattle.kola_top.specs.Answer.{IsRefused, report_of_translate, report_of_run, Answer, usage, too_long, layout, missing, schema, rules_text, rule, check_report, query_text, query_type, too_large, translate_report, database, visits, run_report}
 use Rattle.kola_top.proofs.RulesLaws.{one_file, file_or_fault, one_rules_fault, one_bad_draft, valid_or_bad}
 use Rattle.kola_top.proofs.FoundLaws.{one_fault, one_layout}
-use Rattle.kola_top.proofs.FormLaws.{one_form}
 use Rattle.kola_top.proofs.QueryTextLaws.{one_query_of, spelled_or_at_fault, one_fault_of_query}
 use Rattle.kola_top.specs.Staged.{Says as Line, Then, refused, onward, Nothing}
-use Rattle.kola_top.specs.StageLine.{at_words, at_length, at_layout, at_place, at_schema, at_rules_text, at_rules, at_query_text, at_query_type, at_size, at_query, at_database, Reported, reported, FromDatabase, FromQuery, FromQueryText, BehindRules, FromRules, FromRulesText, FromSchema, FromPlace, OnItsWay, AllTheWay}
+use Rattle.kola_top.specs.StageLine.{at_words, at_length, at_layout, at_place, at_schema, at_rules_text, at_rules, at_query_text, at_query_type, at_size, at_database, at_visits, Reported, reported, FromObjects, FromDatabase, FromQueryText, BehindRules, FromRules, FromRulesText, FromSchema, FromPlace, OnItsWay, AllTheWay}
 use Rattle.kola_top.proofs.Staged.{One, IsOne, one_then}
-
-one_query : (text : List ℕ) (f g : SelectForm) → IsQuery text f → IsQuery text g → f ≡ g
-one_query text f g a b =
-    one_form (lexemes text b.tokens) f g
-    (subst (λ ts. Says (lexemes text ts) f) (one_list a.tokens b.tokens text a.lexed b.lexed) a.says) b.says
 
 -- ---- databases
 
@@ -73,12 +65,18 @@ not_refused : (S : Classes) (text : List ℕ) (e : DbFault) (j : Data) (os : Obj
 not_refused S text _ j os (of_value e k b q) a p = no_ok os e (db_of S k) (ap (db_of S) (one_value text k j b a) ∙ p) q
 not_refused S text _ j os (no_value h) a p = h j a
 
+one_ok : (os ps : Objects) (r : Result Objects DbFault) → r ≡ Ok os → r ≡ Ok ps → os ≡ ps
+one_ok os ps r p q = cc
+
+one_writing : (S : Classes) (text : List ℕ) (os ps : Objects) → WritesObjects S text os → WritesObjects S text ps → os ≡ ps
+one_writing S text os ps h k = one_ok os ps (db_of S k.0) (ap (db_of S) (one_value text k.0 h.0 k.1 h.1) ∙ h.2) k.2
+
 -- ---- what comes behind a query's term
 
 abbrev Rest : Action → List ℕ → Sections → Span → Classes → QueryTree → TypeTree → Line
 Rest Check job found p S q t = Nothing
 Rest Translate job found p S q t = Reported (report_of_translate S q t)
-Rest Run job found p S q t = FromQuery (text_at job p) (text_in job found.database) S
+Rest Run job found p S q t = FromDatabase (text_in job found.database) S q
 
 abbrev FromSize : Classes → (QueryTree → TypeTree → Line) → QueryTree → TypeTree → Line
 FromSize S rest q t = Then (at_size S q) (λ _. rest q t)
@@ -128,8 +126,8 @@ module _ (words : List (List ℕ)) (job : List ℕ) where
         → Rest a job (found_in t.before.before.before) (place_in t.before.before.before) (classes_in t.before.before.before) t.before.before.query t.before.query_type s b → AllTheWay words job s b
     with_term t s b k = with_size t.before s b (onward tt s b t.fits k)
 
-  with_form : (q : HasQuery words job) (s : Status) (b : List ℕ) → FromDatabase (text_in job (found_in q.before.before.before.before).database) (classes_in q.before.before.before.before) q.form s b → AllTheWay words job s b
-  with_form q s b k = with_term q.before s b (onward q.form s b q.is k)
+  with_database : (d : HasDatabase words job) (s : Status) (b : List ℕ) → FromObjects (schema_in d.before) (query_in d.before) d.objects s b → AllTheWay words job s b
+  with_database d s b k = with_term d.before s b (onward d.objects s b d.writes k)
 
   pub staged : (s : Status) (b : List ℕ) → Answer words job s b → AllTheWay words job s b
   staged _ _ (usage e) = refused tt e
@@ -144,9 +142,9 @@ module _ (words : List (List ℕ)) (job : List ℕ) where
   staged _ _ (query_type a at why s h) = with_type s _ _ (refused (at, why) h)
   staged _ _ (too_large a s h) = with_size s _ _ (refused tt h)
   staged _ _ (translate_report s) = with_term s _ _ reported
-  staged _ _ (query s h) = with_term s _ _ (refused tt h)
-  staged _ _ (database e s h) = with_form s _ _ (refused e h)
-  staged _ _ (run_report s) = with_form s.before _ _ (onward tt _ _ (s.value, s.objects, s.reads, s.writes) reported)
+  staged _ _ (database e s h) = with_term s _ _ (refused e h)
+  staged _ _ (visits s h) = with_database s _ _ (refused tt h)
+  staged _ _ (run_report s) = with_database s.before _ _ (onward tt _ _ s.within reported)
 
   -- ---- each stage refuses in at most one way or accepts one thing
 
@@ -205,15 +203,15 @@ module _ (words : List (List ℕ)) (job : List ℕ) where
   one_fitting : (S : Classes) (x : QueryTree) → IsOne (at_size S x)
   one_fitting S x = record { one_refusal = λ _ _ _ _. (refl, refl); one_thing = λ _ _ _ _. refl; not_both = λ _ _ p q. p q }
 
-  one_select : (text : List ℕ) → IsOne (at_query text)
-  one_select text = record { one_refusal = λ _ _ _ _. (refl, refl); one_thing = λ x y h k. one_query text x y h k; not_both = λ _ x h k. h x k }
-
   one_objects : (S : Classes) (text : List ℕ) → IsOne (at_database S text)
   one_objects S text = record {
     one_refusal = λ e f p q. (refl, ap database_line (one_refusal S text e f (refusal S text e p) (refusal S text f q)));
-    one_thing = λ _ _ _ _. refl;
-    not_both = λ e _ p q. not_refused S text e q.0 q.1 (refusal S text e p) q.2 q.3;
+    one_thing = λ x y p q. one_writing S text x y p q;
+    not_both = λ e x p q. not_refused S text e q.0 x (refusal S text e p) q.1 q.2;
   }
+
+  one_visiting : (S : Classes) (os : Objects) (q : QueryTree) → IsOne (at_visits S os (translation S q))
+  one_visiting S os q = record { one_refusal = λ _ _ _ _. (refl, refl); one_thing = λ _ _ _ _. refl; not_both = λ _ _ p q. absurd (omega (arith, p, q)) }
 
   one_report : (text : List ℕ) → One (Reported text)
   one_report text _ _ _ _ reported reported = (refl, refl)
@@ -222,13 +220,13 @@ module _ (words : List (List ℕ)) (job : List ℕ) where
   one_asked text S rest each =
       one_then (at_query_text text) (FromType S rest) (one_spelled text) (λ q _. one_then (at_query_type S q) (FromSize S rest q) (one_typing S q) (λ t _. one_then (at_size S q) (λ _. rest q t) (one_fitting S q) (λ _ _. each q t)))
 
-  one_run : (text db : List ℕ) (S : Classes) → One (FromQuery text db S)
-  one_run text db S = one_then (at_query text) _ (one_select text) (λ f _. one_then (at_database S db) _ (one_objects S db) (λ _ _. one_report (report_text (report_of_form f))))
+  one_run : (db : List ℕ) (S : Classes) (q : QueryTree) → One (FromDatabase db S q)
+  one_run db S q = one_then (at_database S db) _ (one_objects S db) (λ os _. one_then (at_visits S os (translation S q)) _ (one_visiting S os q) (λ _ _. one_report (report_text (report_of_run S os q))))
 
   one_behind : (a : Action) (found : Sections) (p : Span) (S : Classes) (ds : List DraftTree) → One (BehindRules a job found p S ds)
   one_behind Check found p S ds = one_report _
   one_behind Translate found p S ds = one_asked (text_at job p) S (Rest Translate job found p S) (λ q t. one_report (report_of_translate S q t))
-  one_behind Run found p S ds = one_asked (text_at job p) S (Rest Run job found p S) (λ _ _. one_run (text_at job p) (text_in job found.database) S)
+  one_behind Run found p S ds = one_asked (text_at job p) S (Rest Run job found p S) (λ q _. one_run (text_in job found.database) S q)
 
   one_staged : One (AllTheWay words job)
   one_staged =
@@ -240,19 +238,19 @@ module _ (words : List (List ℕ)) (job : List ℕ) where
   one_answer s t b c x y = one_staged s t b c (staged s b x) (staged t c y)
 
   -- the line of stages says nothing else
-  from_database : (q : HasQuery words job) (s : Status) (b : List ℕ) → FromDatabase (text_in job (found_in q.before.before.before.before).database) (classes_in q.before.before.before.before) q.form s b → Answer words job s b
-  from_database q _ _ (refused e h) = database e q h
-  from_database q _ _ (onward _ _ _ d reported) = run_report (record { before = q; value = d.0; objects = d.1; reads = d.2; writes = d.3 })
+  from_objects : (d : HasDatabase words job) (s : Status) (b : List ℕ) → FromObjects (schema_in d.before) (query_in d.before) d.objects s b → Answer words job s b
+  from_objects d _ _ (refused _ h) = visits d h
+  from_objects d _ _ (onward _ _ _ h reported) = run_report (record { before = d; within = h })
 
-  from_query : (t : HasTerm words job Run) (s : Status) (b : List ℕ) → FromQuery (text_at job (place_in t.before.before.before)) (text_in job (found_in t.before.before.before).database) (classes_in t.before.before.before) s b → Answer words job s b
-  from_query t _ _ (refused _ h) = query t h
-  from_query t _ _ (onward f s b i k) = from_database (record { before = t; form = f; is = i }) s b k
+  from_database : (t : HasTerm words job Run) (s : Status) (b : List ℕ) → FromDatabase (text_in job (sections_in t).database) (schema_in t) (query_in t) s b → Answer words job s b
+  from_database t _ _ (refused e h) = database e t h
+  from_database t _ _ (onward os s b w k) = from_objects (record { before = t; objects = os; writes = w }) s b k
 
   from_term : (a : Action) (t : HasTerm words job a) (s : Status) (b : List ℕ)
       → Rest a job (found_in t.before.before.before) (place_in t.before.before.before) (classes_in t.before.before.before) t.before.before.query t.before.query_type s b → Answer words job s b
   from_term Check t s b k = elim k [ ]
   from_term Translate t _ _ reported = translate_report t
-  from_term Run t s b k = from_query t s b k
+  from_term Run t s b k = from_database t s b k
 
   from_size : (a : Action) (t : HasType words job a) (s : Status) (b : List ℕ)
       → FromSize (classes_in t.before.before) (Rest a job (found_in t.before.before) (place_in t.before.before) (classes_in t.before.before)) t.before.query t.query_type s b → Answer words job s b

@@ -1,7 +1,7 @@
 -- Each answer to the words and a job has the cause that its status names.
 use Rattle.std.proofs.Common.{inl, inr}
-use Rattle.kola_top.specs.Answer.{usage, too_long, layout, missing, schema, rules_text, rule, check_report, query_text, query_type, too_large, translate_report, query, database, run_report}
-use Rattle.kola_top.specs.Causes.{AnswersHaveCauses, not_spelled, not_typed, not_of_the_form, checked, translated, ran}
+use Rattle.kola_top.specs.Answer.{usage, too_long, layout, missing, schema, rules_text, rule, check_report, query_text, query_type, too_large, translate_report, database, visits, run_report}
+use Rattle.kola_top.specs.Causes.{AnswersHaveCauses, not_spelled, not_typed, checked, translated, ran}
 
 pub answers_have_causes : AnswersHaveCauses
 answers_have_causes words job _ _ (usage e) = e
@@ -16,6 +16,6 @@ answers_have_causes words job _ _ (query_text a at cause s n h) = not_spelled a 
 answers_have_causes words job _ _ (query_type a at why s h) = not_typed a at why s h
 answers_have_causes words job _ _ (too_large a s h) = (a, s, h)
 answers_have_causes words job _ _ (translate_report s) = translated s
-answers_have_causes words job _ _ (query s h) = not_of_the_form s h
 answers_have_causes words job _ _ (database e s h) = (s, (e, h))
+answers_have_causes words job _ _ (visits s h) = (s, h)
 answers_have_causes words job _ _ (run_report s) = ran s

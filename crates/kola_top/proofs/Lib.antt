@@ -2,8 +2,6 @@ pub mod LineLaws
 pub mod WalkLaws
 pub mod FoundLaws
 mod RowLaws
-mod FormLaws
-pub mod FormReads
 mod Staged
 pub mod AnswerLaws
 pub mod StageLaws
@@ -11,15 +9,11 @@ mod AnswerExists
 mod RunLaws
 mod AnswerExamples
 pub mod PlaceLaws
-mod ReportLaws
-mod LexemeLoop
-mod QueryReading
 mod QueryTextLaws
+mod ValueLaws
 mod RulesLaws
 mod RuleLines
 mod RuleExamples
 mod Examples
 mod QueryExamples
-mod SelectLaws
-mod SelectSets
 pub mod CauseLaws

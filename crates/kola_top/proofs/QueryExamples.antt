@@ -1,68 +1,56 @@
--- Queries of the one form with their lexemes, values and reports, computed.
-use Rattle.std.proofs.Common.{◌≡◌, true, false, [], ◌∷◌, ◌++◌, Some, None, refl}
-use Rattle.std.specs.Prelude.{pos, negsuc, codes, map}
+-- Queries with their reports, and lines of refusals, computed.
+use Rattle.std.proofs.Common.{◌≡◌, ℕ, pos, [], ◌∷◌, Some, None, refl}
+use Rattle.std.specs.Prelude.{codes}
 use Rattle.std.specs.Fmt.{digits}
 use Rattle.std.specs.Str.Lines.{lines}
-use Rattle.kola_values.specs.Values.{VInt, VSet, of_items}
-use Rattle.kola_values.specs.Sets.{set_of}
-use Rattle.kola_term.specs.Terms.{CInt, CSet, FId, FSnd, FComp, FPair, FK, FIter, PLt, PAt}
+use Rattle.kola_base.specs.declared.lex.LexWhy.TheVariants.{NumberTooLarge}
+use Rattle.kola_values.specs.Order.{same}
+use Rattle.kola_values.specs.Sets.{any, all, set_of}
+use Rattle.kola_term.proofs.Sample.{sample_schema, sample_database}
+use Rattle.oql_tree.specs.QueryTrees.{LitInt, QueryTree, QName, QLiteral, QSetOf, QPath, QStruct, QCompare, QSelect, NoFields, QField, NoRanges, QRange, NoWhere, Where}
+use Rattle.oql_tree.specs.declared.query.Sign.TheVariants as sign
+use Rattle.oql_syntax.specs.QueryFaults.{CLex, CUnexpected, CTooDeep, CNotInProfile}
 use Rattle.kola_top.specs.declared.layout.LayoutWhy.TheVariants.{UnknownSection}
 use Rattle.kola_top.specs.declared.words.Action.TheVariants.{Check, Run}
 use Rattle.kola_top.specs.declared.section.Section.TheVariants.{Rules, Query}
 use Rattle.kola_top.specs.Words.{action_of}
-use Rattle.kola_base.specs.Lexemes.{LWord, LNumber, LSign}
-use Rattle.kola_base.specs.QueryWords.{is_name, is_among}
-use Rattle.kola_top.specs.SelectForm.{SelectForm, spelled}
-use Rattle.kola_top.specs.SelectMeaning.{value_of_form, translation, visits_of_form}
-use Rattle.kola_base.specs.declared.lex.LexWhy.TheVariants.{NumberTooLarge}
-use Rattle.oql_syntax.specs.QueryFaults.{CLex, CUnexpected, CTooDeep, CNotInProfile}
-use Rattle.kola_top.specs.FaultLines.{layout_fault_line, missing_line, query_fault_line, not_built_line}
+use Rattle.kola_top.specs.Stages.{visit_limit}
+use Rattle.kola_top.specs.FaultLines.{layout_fault_line, missing_line, query_fault_line, visits_line}
 use Rattle.kola_top.specs.Report.{report_text}
-use Rattle.kola_top.specs.Answer.{report_of_form}
+use Rattle.kola_top.specs.Answer.{report_of_run}
 
 -- select distinct x from x in set(3, 1, 2, 3) where x < 3
-abbrev below_three : SelectForm
-below_three = record { variable = codes "x"; numbers = pos 3 ∷ pos 1 ∷ pos 2 ∷ pos 3 ∷ []; bound = Some (pos 3) }
+abbrev below_three : QueryTree
+below_three =
+    QSelect 0 (QName 16 (codes "x"))
+    (QRange (codes "x") 23 (QSetOf 28 ((LitInt (pos 3), 32) ∷ (LitInt (pos 1), 35) ∷ (LitInt (pos 2), 38) ∷ (LitInt (pos 3), 41) ∷ [])) NoRanges)
+    (Where 44 (QCompare 52 sign.Lt (QName 50 (codes "x")) (QLiteral 54 (LitInt (pos 3)))))
 
--- select distinct v from v in set(-10)
-abbrev one_number : SelectForm
-one_number = record { variable = codes "v"; numbers = negsuc 9 ∷ []; bound = None }
+-- select distinct struct(v: v, owners: (select distinct p from p in Persons where v in p.cars)) from v in Vehicles
+abbrev owners : QueryTree
+owners =
+    QSelect 0
+    (QStruct 16 (QField (codes "v") 23 (QName 26 (codes "v"))
+    (QField (codes "owners") 29
+    (QSelect 38 (QName 54 (codes "p")) (QRange (codes "p") 61 (QName 66 (codes "Persons")) NoRanges)
+    (Where 74 (QCompare 82 sign.Member (QName 80 (codes "v")) (QPath 87 (QName 85 (codes "p")) ((codes "cars", 87) ∷ [])))))
+    NoFields)))
+    (QRange (codes "v") 99 (QName 104 (codes "Vehicles")) NoRanges) NoWhere
 
-spells_below : spelled below_three ≡ map LWord (codes "select" ∷ codes "distinct" ∷ codes "x" ∷ codes "from" ∷ codes "x" ∷ codes "in" ∷ codes "set" ∷ [])
-    ++ (LSign (codes "(") ∷ LNumber (pos 3) ∷ LSign (codes ",") ∷ LNumber (pos 1) ∷ LSign (codes ",") ∷ LNumber (pos 2) ∷ LSign (codes ",") ∷ LNumber (pos 3) ∷ LSign (codes ")")
-    ∷ LWord (codes "where") ∷ LWord (codes "x") ∷ LSign (codes "<") ∷ LNumber (pos 3) ∷ [])
-spells_below = refl
-
-spells_one : spelled one_number ≡ map LWord (codes "select" ∷ codes "distinct" ∷ codes "v" ∷ codes "from" ∷ codes "v" ∷ codes "in" ∷ codes "set" ∷ [])
-    ++ (LSign (codes "(") ∷ LNumber (negsuc 9) ∷ LSign (codes ")") ∷ [])
-spells_one = refl
-
-names : map is_name (codes "x" ∷ codes "_1" ∷ codes "selected" ∷ codes "In" ∷ codes "TRUE" ∷ codes "count" ∷ []) ≡ true ∷ true ∷ true ∷ false ∷ false ∷ false ∷ []
-unfolding is_name is_among
-names = refl
-
-value_below : value_of_form below_three ≡ VSet (of_items (VInt (pos 1) ∷ VInt (pos 2) ∷ []))
-unfolding set_of
-value_below = refl
-
-translation_below : translation below_three ≡ FComp (FIter (PAt PLt (FPair FSnd (FK (CInt (pos 3))))) FSnd) (FPair FId (FK (CSet (VInt (pos 1) ∷ VInt (pos 2) ∷ VInt (pos 3) ∷ []))))
-translation_below = refl
-
-visits_below : visits_of_form below_three ≡ 3
-unfolding set_of
-visits_below = refl
-
-report_below : lines (report_text (report_of_form below_three))
+report_below : lines (report_text (report_of_run [] [] below_three))
     ≡ codes "query: (iter((lt @ <snd, K(3)>), snd) o <id, K({1, 2, 3})>)" ∷ codes "block: -" ∷ codes "plan: (iter((lt @ <snd, K(3)>), snd) o <id, K({1, 2, 3})>)"
     ∷ codes "outcome: done" ∷ codes "ok: true" ∷ codes "firings: 0" ∷ codes "steps: 1" ∷ codes "visits: 3" ∷ codes "result: {1, 2}" ∷ []
-unfolding set_of digits
+unfolding same any all set_of digits
 report_below = refl
 
-report_one : lines (report_text (report_of_form one_number))
-    ≡ codes "query: (iter(KP(true), snd) o <id, K({-10})>)" ∷ codes "block: -" ∷ codes "plan: (iter(KP(true), snd) o <id, K({-10})>)"
-    ∷ codes "outcome: done" ∷ codes "ok: true" ∷ codes "firings: 0" ∷ codes "steps: 1" ∷ codes "visits: 1" ∷ codes "result: {-10}" ∷ []
-unfolding set_of digits
-report_one = refl
+-- each vehicle, and for each of them each person
+report_owners : lines (report_text (report_of_run sample_schema sample_database owners))
+    ≡ codes "query: (iter(KP(true), <snd, (iter((in @ <(snd o fst), (.cars o snd)>), snd) o <id, K(Persons)>)>) o <id, K(Vehicles)>)" ∷ codes "block: -"
+    ∷ codes "plan: (iter(KP(true), <snd, (iter((in @ <(snd o fst), (.cars o snd)>), snd) o <id, K(Persons)>)>) o <id, K(Vehicles)>)"
+    ∷ codes "outcome: done" ∷ codes "ok: true" ∷ codes "firings: 0" ∷ codes "steps: 1" ∷ codes "visits: 6"
+    ∷ codes "result: {struct(v: Vehicle#1, owners: {Person#1, Person#2}), struct(v: Vehicle#2, owners: {})}" ∷ []
+unfolding same any all set_of digits
+report_owners = refl
 
 runs : action_of (codes "run" ∷ []) ≡ Some Run
 runs = refl
@@ -85,9 +73,9 @@ missing_rules : missing_line 7 Rules ≡ codes "fault: layout line 7: SectionMis
 unfolding digits
 missing_rules = refl
 
-not_built : not_built_line ≡ codes "fault: query at 0: NotBuilt\n"
+too_many_visits : visits_line visit_limit ≡ codes "fault: visits passed 5000000\n"
 unfolding digits
-not_built = refl
+too_many_visits = refl
 
 lexical_fault : query_fault_line 32 (CLex NumberTooLarge) ≡ codes "fault: query at 32: NumberTooLarge\n"
 unfolding digits

@@ -9,7 +9,7 @@ use Rattle.kola_top.specs.declared.status.Status.TheVariants as statuses
 use Rattle.kola_top.specs.Words.{action_of}
 use Rattle.kola_top.specs.FaultLines.{usage_line, too_long_line}
 use Rattle.kola_top.specs.Stages.{greatest_length}
-use Rattle.kola_top.specs.Answer.{Answer, usage, too_long, layout, missing, schema, rules_text, rule, check_report, query_text, query_type, too_large, translate_report, query, database, run_report}
+use Rattle.kola_top.specs.Answer.{Answer, usage, too_long, layout, missing, schema, rules_text, rule, check_report, query_text, query_type, too_large, translate_report, database, visits, run_report}
 use Rattle.kola_top.specs.Runs.{Tells, Wrote, Completes, Sent, whole, front, is_written}
 use Rattle.kola_top.proofs.AnswerLaws.{one_answer}
 
@@ -59,8 +59,8 @@ answer_usage words job _ _ (query_text a at cause s n h) u = cc
 answer_usage words job _ _ (query_type a at why s h) u = cc
 answer_usage words job _ _ (too_large a s h) u = cc
 answer_usage words job _ _ (translate_report s) u = cc
-answer_usage words job _ _ (query s h) u = cc
 answer_usage words job _ _ (database e s h) u = cc
+answer_usage words job _ _ (visits s h) u = cc
 answer_usage words job _ _ (run_report s) u = cc
 
 pub usage_only : (words : List (List ℕ)) (job : List ℕ) (before after : Option (List ℕ)) (m n : ℕ) (due status : Status) (bytes sent : List ℕ) → Answer words job due bytes → Sent due sent before after m n status

@@ -1,7 +1,7 @@
 -- From what each stage answers to the answer of the line.
 use Rattle.std.proofs.Common.{◌≡◌, ℕ, List, true, Result, Ok, Err, IfErr, refl, sym, subst}
 use Rattle.kola_top.specs.declared.refusal.Refusal.{Refusal}
-use Rattle.kola_top.specs.declared.refusal.Refusal.TheVariants.{Layout, Missing, Schema, Rules, Rule, Query, QueryType, TermTooLarge, NotBuilt, Database, Memory}
+use Rattle.kola_top.specs.declared.refusal.Refusal.TheVariants.{Layout, Missing, Schema, Rules, Rule, Query, QueryType, TermTooLarge, Database, Visits, Memory}
 use Rattle.kola_top.specs.declared.status.Status.{Status}
 use Rattle.kola_top.specs.Staged.{Says, Stage, Then, refused, onward, Nothing}
 use Rattle.kola_top.specs.declared.asked.Asked.{Asked}
@@ -46,8 +46,8 @@ refuses_too A B f (Rule x y z) h = f _ _ h
 refuses_too A B f (Query x y) h = f _ _ h
 refuses_too A B f (QueryType x y) h = f _ _ h
 refuses_too A B f TermTooLarge h = f _ _ h
-refuses_too A B f NotBuilt h = f _ _ h
 refuses_too A B f (Database x) h = f _ _ h
+refuses_too A B f (Visits n) h = f _ _ h
 refuses_too A B f Memory h = tt
 
 pub replies_too : {T : Type 0} (view : T → List ℕ) (A B : Says) → ((s : Status) (b : List ℕ) → A s b → B s b) → (r : Result T Refusal) → Replies view A r → Replies view B r
@@ -90,7 +90,7 @@ module _ (text : List ℕ) (S : Classes) (rest : QueryTree → TypeTree → Says
   refused_early r h = refuses_too (FromQueryText text S (λ _ _. Nothing)) (FromQueryText text S rest) early r h
 
 pub asked_on : (S : Classes) (text : List ℕ) (a : Asked) (rest : QueryTree → TypeTree → Says) → IsAsked S text a → (s : Status) (b : List ℕ) → rest a.typed.value.0 a.typed.value.1 s b → FromQueryText text S rest s b
-asked_on S text a rest i s b k = onward a.typed.value.0 s b i.spells (onward a.typed.value.1 s b i.typed (onward tt s b i.fits k))
+asked_on S text a rest i s b k = onward a.typed.value.0 s b i.spells (onward a.typed.value.1 s b i.ready.typed (onward tt s b i.ready.fits k))
 
 pub schema_refused : (text : List ℕ) (f : SchemaFault) → IsFault greatest_nesting text f → Refuses (IsOf (at_schema text)) (of_schema f)
 schema_refused text (At at why) h = ((at, why), h, refl, refl)
@@ -126,6 +126,6 @@ told_refuses A (Rule x y z) t h = h
 told_refuses A (Query x y) t h = h
 told_refuses A (QueryType x y) t h = h
 told_refuses A TermTooLarge t h = h
-told_refuses A NotBuilt t h = h
 told_refuses A (Database x) t h = h
+told_refuses A (Visits n) t h = h
 told_refuses A Memory t h = cc

@@ -9,12 +9,11 @@ use Rattle.kola_top.specs.declared.status.Status.{Status}
 use Rattle.kola_top.specs.declared.status.Status.TheVariants as statuses
 use Rattle.kola_top.specs.Words.{action_of, needs}
 use Rattle.kola_top.specs.Layout.{lines_of, kinds, IsFirstFault, place_of}
-use Rattle.kola_top.specs.SelectForm.{SelectForm}
-use Rattle.kola_top.specs.SelectMeaning.{value_of_form, translation, visits_of_form}
 use Rattle.kola_text.specs.Spelling.{fun_spelling}
 use Rattle.kola_canon.specs.Spelling.{value_spelling, type_spelling}
 use Rattle.kola_values.specs.Types.{TypeTree}
-use Rattle.kola_values.specs.Databases.{Classes}
+use Rattle.kola_values.specs.Values.{VUnit}
+use Rattle.kola_values.specs.Databases.{Classes, Objects}
 use Rattle.kola_load.specs.Loaded.{IsFirstFault as IsFirstDbFault}
 use Rattle.kola_load.specs.SchemaAccepted.{greatest_nesting, FaultOf}
 use Rattle.kola_load.specs.declared.schema_fault.SchemaWhy.{SchemaWhy}
@@ -24,16 +23,18 @@ use Rattle.oql_syntax.specs.QueryAnswers.{IsQueryFault}
 use Rattle.oql_syntax.specs.QueryFaults.{QueryCause}
 use Rattle.oql_tree.specs.QueryTrees.{QueryTree}
 use Rattle.oql_check.specs.QueryTypes.{FirstFault}
+use Rattle.oql_check.specs.QueryMeaning.{mean}
 use Rattle.oql_check.specs.declared.fault.CheckWhy.{CheckWhy}
-use Rattle.kola_translate.specs.Translation.{translation as term_of_query}
+use Rattle.kola_translate.specs.Translation.{translation}
 use Rattle.kola_translate.specs.TranslationAnswers.{FitsAtUnit}
+use Rattle.kola_term.specs.Visits.{visits as members_visited}
 use Rattle.kola_rule.specs.Rules.{DraftTree}
 use Rattle.kola_laws.specs.Laws.{laws}
 use Rattle.kola_proof.specs.Drafts.{FirstBadDraft}
 use Rattle.kola_proof.specs.declared.fault.StepWhy.{StepWhy}
 use Rattle.kola_top.specs.Report.{check_text, translate_text, Report, report_text}
-use Rattle.kola_top.specs.FaultLines.{usage_line, too_long_line, layout_fault_line, missing_line, schema_line, rules_line, rule_line, query_fault_line, query_type_line, too_large_line, not_built_line, database_line}
-use Rattle.kola_top.specs.Stages.{greatest_length, text_at, text_in, rules_read, IsRulesFault, IsNoQuery, IsTaken, IsLaidOut, HasSections, HasSchema, HasRulesText, HasRules, place_in, classes_in, found_in, HasQueryText, HasType, HasTerm, HasQuery, HasDatabase}
+use Rattle.kola_top.specs.FaultLines.{usage_line, too_long_line, layout_fault_line, missing_line, schema_line, rules_line, rule_line, query_fault_line, query_type_line, too_large_line, database_line, visits_line}
+use Rattle.kola_top.specs.Stages.{greatest_length, visit_limit, text_at, text_in, rules_read, IsRulesFault, IsTaken, IsLaidOut, HasSections, HasSchema, HasRulesText, HasRules, place_in, classes_in, HasQueryText, HasType, HasTerm, query_in, schema_in, sections_in, HasDatabase, visits_in, HasValue}
 
 -- what `check` reports: the names of the rules, and no block, which no text can write yet
 abbrev pub report_of_check : List DraftTree → List ℕ
@@ -41,7 +42,7 @@ report_of_check ds = check_text (map (λ (d : DraftTree). d.rule.name) ds) 0
 
 -- what `translate` reports: the query's term and its type
 abbrev pub report_of_translate : Classes → QueryTree → TypeTree → List ℕ
-report_of_translate S q t = translate_text (fun_spelling (term_of_query S q)) (type_spelling t)
+report_of_translate S q t = translate_text (fun_spelling (translation S q)) (type_spelling t)
 
 -- what `run` reports where no block is named: the one step that is taken changes nothing
 abbrev pub unchanged_report : List ℕ → ℕ → List ℕ → Report
@@ -57,8 +58,9 @@ unchanged_report query visits result = record {
   result = result;
 }
 
-abbrev pub report_of_form : SelectForm → Report
-report_of_form f = unchanged_report (fun_spelling (translation f)) (visits_of_form f) (value_spelling (value_of_form f))
+-- what `run` reports: the query's term, the members that it visits at the unit, and the query's value under no variable
+abbrev pub report_of_run : Classes → Objects → QueryTree → Report
+report_of_run S os q = unchanged_report (fun_spelling (translation S q)) (members_visited S os (translation S q) VUnit) (value_spelling (mean S os q []))
 
 abbrev pub is_memory : DbFault → Bool
 is_memory Memory = true
@@ -79,8 +81,8 @@ pub data Answer (words : List (List ℕ)) (job : List ℕ) : Status → List ℕ
   check_report : (s : HasRules words job Check) → Answer words job statuses.Ok (report_of_check s.before.drafts)
   query_text : (a : Action) (at : ℕ) (cause : QueryCause) (s : HasRules words job a) → needs a ≡ Query → IsQueryFault (text_at job (place_in s)) at cause → Answer words job statuses.Query (query_fault_line at cause)
   query_type : (a : Action) (at : ℕ) (why : CheckWhy) (s : HasQueryText words job a) → FirstFault (classes_in s.before) [] s.query at why → Answer words job statuses.Query (query_type_line at why)
-  too_large : (a : Action) (s : HasType words job a) → (FitsAtUnit (classes_in s.before.before) (term_of_query (classes_in s.before.before) s.before.query) → ⊥) → Answer words job statuses.TermTooLarge too_large_line
-  translate_report : (s : HasTerm words job Translate) → Answer words job statuses.Ok (report_of_translate (classes_in s.before.before.before) s.before.before.query s.before.query_type)
-  query : (s : HasTerm words job Run) → IsNoQuery (text_at job (place_in s.before.before.before)) → Answer words job statuses.Query not_built_line
-  database : (e : DbFault) (s : HasQuery words job) → IsRefused (classes_in s.before.before.before.before) (text_in job (found_in s.before.before.before.before).database) e → Answer words job statuses.Database (database_line e)
-  run_report : (s : HasDatabase words job) → Answer words job statuses.Ok (report_text (report_of_form s.before.form))
+  too_large : (a : Action) (s : HasType words job a) → (FitsAtUnit (classes_in s.before.before) (translation (classes_in s.before.before) s.before.query) → ⊥) → Answer words job statuses.TermTooLarge too_large_line
+  translate_report : (s : HasTerm words job Translate) → Answer words job statuses.Ok (report_of_translate (schema_in s) (query_in s) s.before.query_type)
+  database : (e : DbFault) (s : HasTerm words job Run) → IsRefused (schema_in s) (text_in job (sections_in s).database) e → Answer words job statuses.Database (database_line e)
+  visits : (s : HasDatabase words job) → visit_limit < visits_in s → Answer words job statuses.Visits (visits_line visit_limit)
+  run_report : (s : HasValue words job) → Answer words job statuses.Ok (report_text (report_of_run (schema_in s.before.before) s.before.objects (query_in s.before.before)))

@@ -9,9 +9,13 @@ use Rattle.kola_translate.specs.Translation.{translation}
 use Rattle.kola_translate.specs.TranslationAnswers.{FitsAtUnit}
 use Rattle.kola_top.specs.declared.asked.Asked.{Asked}
 
--- the text spells the query, which has the type, and the term is its translation, which fits at the unit
-pub record IsAsked (S : Classes) (text : List ℕ) (a : Asked) : Type 0 where
-  pub spells : SpellsQuery text a.typed.value.0
+-- the query has the type, and the term is its translation, which fits at the unit
+pub record IsReady (S : Classes) (a : Asked) : Type 0 where
   pub typed : HasQueryType S [] a.typed.value.0 a.typed.value.1
   pub fits : FitsAtUnit S (translation S a.typed.value.0)
   pub term : term_tree a.term.value ≡ TermF (translation S a.typed.value.0)
+
+-- the text spells that query
+pub record IsAsked (S : Classes) (text : List ℕ) (a : Asked) : Type 0 where
+  pub spells : SpellsQuery text a.typed.value.0
+  pub ready : IsReady S a

@@ -15,7 +15,7 @@ use Rattle.kola_load.specs.declared.fault.DbFault.{DbFault}
 use Rattle.kola_laws.specs.Laws.{laws}
 use Rattle.kola_proof.specs.Drafts.{FirstBadDraft}
 use Rattle.kola_proof.specs.declared.fault.StepWhy.{StepWhy}
-use Rattle.kola_top.specs.Stages.{greatest_length, text_at, text_in, rules_read, IsRulesFault, IsNoQuery, IsTaken, IsLaidOut, HasSections, HasSchema, HasRulesText, HasRules, place_in, classes_in, found_in, HasQueryText, HasType, HasTerm, HasQuery, HasDatabase}
+use Rattle.kola_top.specs.Stages.{greatest_length, visit_limit, text_at, text_in, rules_read, IsRulesFault, IsTaken, IsLaidOut, HasSections, HasSchema, HasRulesText, HasRules, place_in, classes_in, HasQueryText, HasType, HasTerm, schema_in, sections_in, HasDatabase, visits_in, HasValue}
 use Rattle.oql_syntax.specs.QueryAnswers.{IsQueryFault}
 use Rattle.oql_syntax.specs.QueryFaults.{QueryCause}
 use Rattle.oql_check.specs.QueryTypes.{FirstFault}
@@ -24,17 +24,16 @@ use Rattle.kola_translate.specs.Translation.{translation}
 use Rattle.kola_translate.specs.TranslationAnswers.{FitsAtUnit}
 use Rattle.kola_top.specs.Answer.{Answer, IsRefused}
 
--- a query that is refused: its text spells none, or it has no type, or it is none of the form
+-- a query that is refused: its text spells none, or it has no type
 pub data IsQueryRefused (words : List (List ℕ)) (job : List ℕ) : Type 0 where
   not_spelled : (a : Action) (at : ℕ) (cause : QueryCause) (s : HasRules words job a) → needs a ≡ Query → IsQueryFault (text_at job (place_in s)) at cause → IsQueryRefused words job
   not_typed : (a : Action) (at : ℕ) (why : CheckWhy) (s : HasQueryText words job a) → FirstFault (classes_in s.before) [] s.query at why → IsQueryRefused words job
-  not_of_the_form : (s : HasTerm words job Run) → IsNoQuery (text_at job (place_in s.before.before.before)) → IsQueryRefused words job
 
 -- all is accepted that the action asks for
 pub data HasReport (words : List (List ℕ)) (job : List ℕ) : Type 0 where
   checked : HasRules words job Check → HasReport words job
   translated : HasTerm words job Translate → HasReport words job
-  ran : HasDatabase words job → HasReport words job
+  ran : HasValue words job → HasReport words job
 
 -- what a status says of the words and a job: which refusal it is, and that its cause holds and no earlier one does
 abbrev pub Cause : List (List ℕ) → List ℕ → Status → Type 0
@@ -45,7 +44,8 @@ Cause words job statuses.Schema = (a : Action) × ((s : HasSections words job a)
 Cause words job statuses.Rules = (a : Action) × (((s : HasSchema words job a) × ((at : ℕ) × (why : TextWhy) × IsRulesFault (rules_read a job s.before.before.found) at why)) ⊎ ((s : HasRulesText words job a) × ((name : List ℕ) × (step : ℕ) × (why : StepWhy) × FirstBadDraft s.before.classes laws s.drafts name step why)))
 Cause words job statuses.Query = IsQueryRefused words job
 Cause words job statuses.TermTooLarge = (a : Action) × (s : HasType words job a) × (FitsAtUnit (classes_in s.before.before) (translation (classes_in s.before.before) s.before.query) → ⊥)
-Cause words job statuses.Database = (s : HasQuery words job) × ((e : DbFault) × IsRefused (classes_in s.before.before.before.before) (text_in job (found_in s.before.before.before.before).database) e)
+Cause words job statuses.Database = (s : HasTerm words job Run) × ((e : DbFault) × IsRefused (schema_in s) (text_in job (sections_in s).database) e)
+Cause words job statuses.Visits = (s : HasDatabase words job) × (visit_limit < visits_in s)
 Cause words job statuses.Ok = HasReport words job
 Cause words job _ = ⊥
 

@@ -98,9 +98,9 @@ query_type_line at why = query_line at (check_name why)
 abbrev pub too_large_line : List ℕ
 too_large_line = codes "fault: term too large\n"
 
--- a query that is none of the form
-abbrev pub not_built_line : List ℕ
-not_built_line = query_line 0 (codes "NotBuilt")
+-- a query whose term would visit more members than it may
+abbrev pub visits_line : ℕ → List ℕ
+visits_line limit = codes "fault: visits passed " ++ (decimal limit ++ codes "\n")
 
 -- ---- databases
 

@@ -1,8 +1,6 @@
 pub mod Layout
 pub mod Views
 pub mod Scan
-pub mod SelectForm
-pub mod SelectMeaning
 pub mod Report
 pub mod Statuses
 pub mod Words
@@ -13,9 +11,8 @@ pub mod Answer
 pub mod Staged
 pub mod StageLine
 pub mod Refusals
+pub mod Valued
 pub mod AskedViews
-pub mod FormReader
-pub mod FormViews
 pub mod ReportViews
 pub mod RulesViews
 pub mod Runs

@@ -8,6 +8,8 @@ use Rattle.kola_load.specs.declared.schema_fault.SchemaFault.{SchemaFault}
 use Rattle.kola_load.specs.declared.schema_fault.SchemaFault.TheVariants as schema
 use Rattle.kola_load.specs.declared.fault.DbFault.{DbFault}
 use Rattle.kola_load.specs.declared.fault.DbFault.TheVariants as db
+use Rattle.kola_eval.specs.declared.fault.EvalFault.{EvalFault}
+use Rattle.kola_eval.specs.declared.fault.EvalFault.TheVariants as eval
 use Rattle.oql_check.specs.declared.fault.CheckFault.{CheckFault}
 use Rattle.oql_check.specs.declared.fault.CheckFault.TheVariants as check
 use Rattle.kola_translate.specs.declared.fault.TranslateFault.{TranslateFault}
@@ -16,10 +18,10 @@ use Rattle.oql_syntax.specs.QueryAnswers.{why_cause}
 use Rattle.oql_syntax.specs.declared.read.QueryFault.{QueryFault}
 use Rattle.oql_syntax.specs.declared.read.QueryFault.TheVariants as query
 use Rattle.kola_top.specs.declared.refusal.Refusal.{Refusal}
-use Rattle.kola_top.specs.declared.refusal.Refusal.TheVariants.{Layout, Missing, Schema, Rules, Rule, Query, QueryType, TermTooLarge, NotBuilt, Database, Memory}
+use Rattle.kola_top.specs.declared.refusal.Refusal.TheVariants.{Layout, Missing, Schema, Rules, Rule, Query, QueryType, TermTooLarge, Database, Visits, Memory}
 use Rattle.kola_top.specs.declared.status.Status.{Status}
 use Rattle.kola_top.specs.declared.status.Status.TheVariants as statuses
-use Rattle.kola_top.specs.FaultLines.{layout_fault_line, missing_line, schema_line, rules_line, rule_line, query_fault_line, query_type_line, too_large_line, not_built_line, database_line}
+use Rattle.kola_top.specs.FaultLines.{layout_fault_line, missing_line, schema_line, rules_line, rule_line, query_fault_line, query_type_line, too_large_line, database_line, visits_line}
 use Rattle.kola_top.specs.Staged.{Says, Stage}
 
 abbrev pub of_schema : SchemaFault → Refusal
@@ -50,6 +52,10 @@ abbrev pub of_database : DbFault → Refusal
 of_database db.Memory = Memory
 of_database f = Database f
 
+abbrev pub of_eval : EvalFault → Refusal
+of_eval (eval.VisitLimit limit) = Visits limit
+of_eval eval.Memory = Memory
+
 -- a refusal that is told by a line
 abbrev pub is_told : Refusal → Bool
 is_told Memory = false
@@ -64,8 +70,8 @@ status_of (Rule name step why) = statuses.Rules
 status_of (Query at why) = statuses.Query
 status_of (QueryType at why) = statuses.Query
 status_of TermTooLarge = statuses.TermTooLarge
-status_of NotBuilt = statuses.Query
 status_of (Database f) = statuses.Database
+status_of (Visits limit) = statuses.Visits
 status_of Memory = statuses.Memory
 
 abbrev pub line_of : Refusal → List ℕ
@@ -77,8 +83,8 @@ line_of (Rule name step why) = rule_line name step why
 line_of (Query at why) = query_fault_line at (why_cause why)
 line_of (QueryType at why) = query_type_line at why
 line_of TermTooLarge = too_large_line
-line_of NotBuilt = not_built_line
 line_of (Database f) = database_line f
+line_of (Visits limit) = visits_line limit
 line_of Memory = codes ""
 
 -- a refusal says its answer; want of memory says nothing

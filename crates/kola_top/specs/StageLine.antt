@@ -9,20 +9,19 @@ use Rattle.kola_top.specs.declared.words.Action.TheVariants.{Check, Translate, R
 use Rattle.kola_top.specs.declared.status.Status.{Status}
 use Rattle.kola_top.specs.declared.status.Status.TheVariants as statuses
 use Rattle.kola_values.specs.Types.{TypeTree}
+use Rattle.kola_values.specs.Values.{VUnit}
 use Rattle.kola_values.specs.Databases.{Classes, Objects}
-use Rattle.serde_json.specs.Data.{Data}
-use Rattle.kola_load.specs.Loading.{db_of}
-use Rattle.kola_load.specs.Loaded.{Reads}
 use Rattle.kola_load.specs.SchemaAccepted.{greatest_nesting, Writes, FaultOf}
 use Rattle.kola_load.specs.declared.schema_fault.SchemaWhy.{SchemaWhy}
 use Rattle.kola_load.specs.declared.fault.DbFault.{DbFault}
+use Rattle.kola_term.specs.Terms.{FunTree}
+use Rattle.kola_term.specs.Visits.{visits}
 use Rattle.kola_rule.specs.Rules.{DraftTree}
 use Rattle.kola_laws.specs.Laws.{laws}
 use Rattle.kola_proof.specs.Drafts.{AreValid, FirstBadDraft}
 use Rattle.kola_proof.specs.declared.fault.StepWhy.{StepWhy}
 use Rattle.kola_top.specs.Words.{action_of, needs}
 use Rattle.kola_top.specs.Layout.{lines_of, kinds, place_of, AreSections, IsFirstFault}
-use Rattle.kola_top.specs.SelectForm.{SelectForm}
 use Rattle.oql_syntax.specs.QueryAnswers.{SpellsQuery, IsQueryFault}
 use Rattle.oql_syntax.specs.QueryFaults.{QueryCause}
 use Rattle.oql_tree.specs.QueryTrees.{QueryTree}
@@ -32,9 +31,9 @@ use Rattle.oql_check.specs.declared.fault.CheckWhy.{CheckWhy}
 use Rattle.kola_translate.specs.Translation.{translation}
 use Rattle.kola_translate.specs.TranslationAnswers.{FitsAtUnit}
 use Rattle.kola_top.specs.Report.{report_text}
-use Rattle.kola_top.specs.FaultLines.{usage_line, too_long_line, layout_fault_line, missing_line, schema_line, rules_line, rule_line, query_fault_line, query_type_line, too_large_line, not_built_line, database_line}
-use Rattle.kola_top.specs.Stages.{greatest_length, text_at, text_in, rules_read, WritesRules, IsRulesFault, IsQuery, IsNoQuery}
-use Rattle.kola_top.specs.Answer.{IsRefused, report_of_check, report_of_translate, report_of_form}
+use Rattle.kola_top.specs.FaultLines.{usage_line, too_long_line, layout_fault_line, missing_line, schema_line, rules_line, rule_line, query_fault_line, query_type_line, too_large_line, database_line, visits_line}
+use Rattle.kola_top.specs.Stages.{greatest_length, visit_limit, text_at, text_in, rules_read, WritesRules, IsRulesFault, WritesObjects}
+use Rattle.kola_top.specs.Answer.{IsRefused, report_of_check, report_of_translate, report_of_run}
 use Rattle.kola_top.specs.Staged.{Says, Stage, Then}
 
 abbrev pub at_words : List (List ℕ) → Stage (Unit {0}) Action
@@ -67,27 +66,22 @@ at_query_type S q = record { refuses = λ f. FirstFault S [] q f.0 f.1; accepts 
 abbrev pub at_size : Classes → QueryTree → Stage (Unit {0}) (Unit {0})
 at_size S q = record { refuses = λ _. FitsAtUnit S (translation S q) → ⊥; accepts = λ _. FitsAtUnit S (translation S q); status = λ _. statuses.TermTooLarge; bytes = λ _. too_large_line }
 
-abbrev pub at_query : List ℕ → Stage (Unit {0}) SelectForm
-at_query text = record { refuses = λ _. IsNoQuery text; accepts = IsQuery text; status = λ _. statuses.Query; bytes = λ _. not_built_line }
+abbrev pub at_database : Classes → List ℕ → Stage DbFault Objects
+at_database S text = record { refuses = IsRefused S text; accepts = WritesObjects S text; status = λ _. statuses.Database; bytes = database_line }
 
-abbrev pub at_database : Classes → List ℕ → Stage DbFault (Unit {0})
-at_database S text = record {
-  refuses = IsRefused S text;
-  accepts = λ _. (j : Data) × (os : Objects) × Reads text j × (db_of S j ≡ Ok os);
-  status = λ _. statuses.Database;
-  bytes = database_line;
-}
+abbrev pub at_visits : Classes → Objects → FunTree → Stage (Unit {0}) (Unit {0})
+at_visits S os f = record { refuses = λ _. visit_limit < visits S os f VUnit; accepts = λ _. visits S os f VUnit ≤ visit_limit; status = λ _. statuses.Visits; bytes = λ _. visits_line visit_limit }
 
 -- the report
 pub data Reported (text : List ℕ) : Status → List ℕ → Type 0 where
   reported : Reported text statuses.Ok text
 
 -- a job of no more than the greatest length on its way to the report, a line for each stage, the last first
-abbrev pub FromDatabase : List ℕ → Classes → SelectForm → Says
-FromDatabase database S f = Then (at_database S database) (λ _. Reported (report_text (report_of_form f)))
+abbrev pub FromObjects : Classes → QueryTree → Objects → Says
+FromObjects S q os = Then (at_visits S os (translation S q)) (λ _. Reported (report_text (report_of_run S os q)))
 
-abbrev pub FromQuery : List ℕ → List ℕ → Classes → Says
-FromQuery text database S = Then (at_query text) (FromDatabase database S)
+abbrev pub FromDatabase : List ℕ → Classes → QueryTree → Says
+FromDatabase database S q = Then (at_database S database) (FromObjects S q)
 
 -- a query's text on its way to its term, and what comes behind it
 abbrev pub FromQueryText : List ℕ → Classes → (QueryTree → TypeTree → Says) → Says
@@ -97,7 +91,7 @@ FromQueryText text S rest = Then (at_query_text text) (λ q. Then (at_query_type
 abbrev pub BehindRules : Action → List ℕ → Sections → Span → Classes → List DraftTree → Says
 BehindRules Check job found p S ds = Reported (report_of_check ds)
 BehindRules Translate job found p S ds = FromQueryText (text_at job p) S (λ q t. Reported (report_of_translate S q t))
-BehindRules Run job found p S ds = FromQueryText (text_at job p) S (λ _ _. FromQuery (text_at job p) (text_in job found.database) S)
+BehindRules Run job found p S ds = FromQueryText (text_at job p) S (λ q _. FromDatabase (text_in job found.database) S q)
 
 abbrev pub FromRules : Action → List ℕ → Sections → Span → Classes → List DraftTree → Says
 FromRules a job found p S ds = Then (at_rules S ds) (λ _. BehindRules a job found p S ds)

@@ -7,23 +7,21 @@ use Rattle.kola_top.specs.declared.words.Action.TheVariants.{Translate, Run}
 use Rattle.kola_top.specs.declared.section.Section.TheVariants.{Query}
 use Rattle.kola_top.specs.Words.{action_of, needs}
 use Rattle.kola_top.specs.Layout.{AreSections, place_of}
-use Rattle.kola_base.specs.declared.lex.Token.{Token}
-use Rattle.kola_base.specs.Tokens.{AreTokens}
-use Rattle.kola_base.specs.Lexemes.{lexemes}
 use Rattle.kola_base.specs.Spelled.{Spells, FaultOfText}
 use Rattle.kola_base.specs.declared.text_fault.TextWhy.{TextWhy}
-use Rattle.kola_top.specs.SelectForm.{SelectForm, Says}
 use Rattle.oql_syntax.specs.QueryAnswers.{SpellsQuery}
 use Rattle.oql_tree.specs.QueryTrees.{QueryTree}
 use Rattle.oql_check.specs.TypedQueries.{HasQueryType}
 use Rattle.kola_translate.specs.Translation.{translation}
 use Rattle.kola_translate.specs.TranslationAnswers.{FitsAtUnit}
 use Rattle.kola_values.specs.Types.{TypeTree}
+use Rattle.kola_values.specs.Values.{VUnit}
 use Rattle.kola_values.specs.Databases.{Classes, Objects}
 use Rattle.serde_json.specs.Data.{Data}
 use Rattle.kola_load.specs.Loading.{db_of}
 use Rattle.kola_load.specs.Loaded.{Reads}
 use Rattle.kola_load.specs.SchemaAccepted.{greatest_nesting, Writes}
+use Rattle.kola_term.specs.Visits.{visits}
 use Rattle.kola_rule.specs.Rules.{DraftTree}
 use Rattle.kola_laws.specs.Laws.{laws}
 use Rattle.coko_text.specs.RuleGrammar.{FileText}
@@ -56,20 +54,13 @@ WritesRules text ds = Spells (FileText greatest_type_nesting) text ds
 abbrev pub IsRulesFault : List ℕ → ℕ → TextWhy → Type 0
 IsRulesFault text at why = FaultOfText FileText greatest_type_nesting text at why
 
--- the text is a query of the form: its tokens say one
-pub record IsQuery (text : List ℕ) (f : SelectForm) : Type 0 where
-  pub tokens : List Token
-  pub lexed : AreTokens tokens text
-  pub says : Says (lexemes text tokens) f
+-- the text reads as a value that writes these objects
+abbrev pub WritesObjects : Classes → List ℕ → Objects → Type 0
+WritesObjects S text os = (j : Data) × Reads text j × (db_of S j ≡ Ok os)
 
--- the text is no query of the form
-abbrev pub IsNoQuery : List ℕ → Type 0
-IsNoQuery text = (f : SelectForm) → IsQuery text f → ⊥
-
--- the query of the form that a text is, if it is one
-abbrev pub IsQueryReading : List ℕ → Option SelectForm → Type 0
-IsQueryReading text (Some f) = IsQuery text f
-IsQueryReading text None = IsNoQuery text
+-- the most members that a query's term may visit
+abbrev pub visit_limit : ℕ
+visit_limit = 5000000
 
 -- ---- the stages
 
@@ -135,16 +126,27 @@ pub record HasTerm (words : List (List ℕ)) (job : List ℕ) (a : Action) : Typ
   pub before : HasType words job a
   pub fits : FitsAtUnit (classes_in before.before.before) (translation (classes_in before.before.before) before.before.query)
 
--- the query's text is this query of the form
-pub record HasQuery (words : List (List ℕ)) (job : List ℕ) : Type 0 where
-  pub before : HasTerm words job Run
-  pub form : SelectForm
-  pub is : IsQuery (text_at job (place_in before.before.before.before)) form
+-- the query, and the classes under which it was read
+abbrev pub query_in : {words : List (List ℕ)} {job : List ℕ} {a : Action} → HasTerm words job a → QueryTree
+query_in s = s.before.before.query
 
--- the database's text reads as this value, which writes these objects
+abbrev pub schema_in : {words : List (List ℕ)} {job : List ℕ} {a : Action} → HasTerm words job a → Classes
+schema_in s = classes_in s.before.before.before
+
+abbrev pub sections_in : {words : List (List ℕ)} {job : List ℕ} {a : Action} → HasTerm words job a → Sections
+sections_in s = found_in s.before.before.before
+
+-- the database's text writes these objects
 pub record HasDatabase (words : List (List ℕ)) (job : List ℕ) : Type 0 where
-  pub before : HasQuery words job
-  pub value : Data
+  pub before : HasTerm words job Run
   pub objects : Objects
-  pub reads : Reads (text_in job (found_in before.before.before.before.before).database) value
-  pub writes : db_of (classes_in before.before.before.before.before) value ≡ Ok objects
+  pub writes : WritesObjects (schema_in before) (text_in job (sections_in before).database) objects
+
+-- how many members the query's term visits at the unit
+abbrev pub visits_in : {words : List (List ℕ)} {job : List ℕ} → HasDatabase words job → ℕ
+visits_in s = visits (schema_in s.before) s.objects (translation (schema_in s.before) (query_in s.before)) VUnit
+
+-- the term visits no more members than it may
+pub record HasValue (words : List (List ℕ)) (job : List ℕ) : Type 0 where
+  pub before : HasDatabase words job
+  pub within : visits_in before ≤ visit_limit

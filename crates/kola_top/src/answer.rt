@@ -1,39 +1,28 @@
 //! The answer to a job that was read: its status and the bytes that are written.
 
-ghost use Rattle.std.specs.Prelude.{◌≡◌, ◌≤◌, ◌<◌, ℕ, List, IfOk, IfSome, IsTrue, Some, true, length, filter};
-ghost use Rattle.kola_values.specs.Values.{VSet, of_items};
-ghost use Rattle.kola_canon.specs.Spelling.{value_spelling};
-ghost use Rattle.kola_term.specs.Terms.{CSet, FId, FSnd, FComp, FPair, FK, FIter};
-ghost use Rattle.kola_text.specs.Spelling.{fun_spelling};
+ghost use Rattle.std.specs.Prelude.{◌≡◌, ◌≤◌, ◌<◌, ℕ, List, IfOk, IfErr, IfSome, IsTrue, Some, true, length};
+ghost use Rattle.kola_load.specs.Loaded.{IsLoaded};
 ghost use Rattle.kola_top.specs.Stages.{text_in, rules_read, greatest_length};
-ghost use Rattle.kola_top.specs.Answer.{Answer, is_memory, report_of_form, unchanged_report};
-ghost use Rattle.kola_top.specs.StageLine.{at_place, at_schema, at_query, at_database, FromQueryText, FromQuery, OnItsWay};
-ghost use Rattle.kola_top.specs.Refusals.{Passes, Replies, is_told, status_of, line_of};
-ghost use Rattle.kola_top.specs.FormViews.{form_view};
+ghost use Rattle.kola_top.specs.Answer.{Answer, is_memory, unchanged_report};
+ghost use Rattle.kola_top.specs.StageLine.{at_place, at_schema, at_database, FromQueryText, FromDatabase, OnItsWay};
+ghost use Rattle.kola_top.specs.Refusals.{Passes, Refuses, IsOf, Replies, is_told, status_of, line_of};
 ghost use Rattle.kola_top.specs.Report.{report_text};
 ghost use Rattle.kola_top.specs.Runs.{is_written};
-ghost use Rattle.kola_top.specs.SelectMeaning.{condition, is_below};
 ghost use Rattle.kola_top.specs.Words.{action_of};
 
 use crate::asked::{ask, translate_report};
-use crate::form::SelectForm;
 use crate::layout::sections;
 use crate::output::{Report, report_text};
-use crate::query::query_of;
 use crate::refusal::Refusal;
 use crate::rules::{accept, check_report, drafts_of};
 use crate::section::{Sections, Span};
-use crate::select::{literals_of, members_below, translate};
-use crate::select_laws::{select_is_evaluated_rightly, select_is_translated_rightly};
 use crate::status::Status;
+use crate::valued::evaluated;
 use crate::words::Action;
-use kola_canon::push_set;
 use kola_core::Memory;
+use kola_database::Db;
 use kola_load::{DbFault, read_db, read_schema};
 use kola_schema::Schema;
-use kola_term::{LitSet, Term};
-use kola_text::print_term;
-use kola_values::Set;
 use std::alloc::Global;
 
 /// The status of an answer and the bytes that are written.
@@ -41,26 +30,6 @@ use std::alloc::Global;
 pub struct Reply {
     pub status: Status,
     pub bytes: Vec<u8>,
-}
-
-/// The text of a query's term.
-fn term_text(alloc: Global, set: LitSet, bound: Option<i64>) -> Result<Vec<u8>, Memory>
-    ensures { IfOk result (λ text. text.items
-        ≡ fun_spelling (FComp (FIter (condition bound) FSnd) (FPair FId (FK (CSet set))))) }
-{
-    let term = Term::F(translate(alloc, set, bound)?);
-    let text = print_term(alloc, &term)?;
-    Ok(text)
-}
-
-/// The text of a query's value.
-fn result_text(alloc: Global, set: &Set, bound: Option<i64>) -> Result<Vec<u8>, Memory>
-    ensures { IfOk result (λ text. text.items ≡ value_spelling (VSet (of_items (filter (is_below bound) set.now)))) }
-{
-    let members = members_below(alloc, set, bound)?;
-    let mut text = Vec::new(alloc);
-    push_set(&mut text, &members)?;
-    Ok(text)
 }
 
 /// The report where no block is named.
@@ -86,21 +55,6 @@ fn unchanged_report(
             result: outcome,
         },
     )
-}
-
-/// The report on a query of the form.
-fn report_on(alloc: Global, form: &SelectForm<'_>) -> Result<Vec<u8>, Memory>
-    requires { 0 < length form.now.numbers.items }
-    ensures { IfOk result (λ bytes. bytes.items ≡ report_text (report_of_form (form_view form.now))) }
-{
-    select_is_translated_rightly();
-    select_is_evaluated_rightly();
-    let set = literals_of(alloc, &form.numbers)?;
-    let visits = set.set().len() as u64;
-    let value = result_text(alloc, set.set(), form.bound)?;
-    let query = term_text(alloc, set, form.bound)?;
-    let bytes = unchanged_report(alloc, &query, visits, &value)?;
-    Ok(bytes)
 }
 
 /// The text of a section; one that is absent is empty.
@@ -135,28 +89,22 @@ fn schema_of(alloc: Global, text: &[u8]) -> Result<Box<Schema>, Refusal>
     Ok(schema)
 }
 
-/// The query of the form that a text is.
-fn form_of<'a>(alloc: Global, text: &'a [u8]) -> Result<SelectForm<'a>, Refusal>
-    ensures { Passes (at_query text.now) form_view result }
-{
-    match query_of(alloc, text)? {
-        Some(form) => Ok(form),
-        None => Err(Refusal::NotBuilt),
-    }
-}
-
 fn is_memory(fault: &DbFault) -> bool
     ensures { result ≡ is_memory fault.now }
 {
     matches!(fault, DbFault::Memory)
 }
 
-/// Reads the database that a text writes.
-fn database_of(alloc: Global, schema: &Schema, text: &[u8]) -> Result<(), Refusal>
-    ensures { Passes (at_database schema.now text.now) (λ _. tt) result }
+/// The database that a text writes.
+fn database_of(alloc: Global, schema: &Schema, text: &[u8]) -> Result<Box<Db>, Refusal>
+    ensures loaded { IfOk result (λ db. IsLoaded schema.now text.now db.value) }
+    ensures refused { IfErr result (Refuses (IsOf (at_database schema.now text.now))) }
 {
     match read_db(alloc, schema, text) {
-        Ok(_database) => Ok(()),
+        Ok(database) => {
+            let database = Box::new(alloc, database)?;
+            Ok(database)
+        }
         Err(fault) if is_memory(&fault) => Err(Refusal::Memory),
         Err(fault) => Err(Refusal::Database(fault)),
     }
@@ -170,13 +118,13 @@ fn run_report(
     database: &[u8],
 ) -> Result<Vec<u8>, Refusal>
     ensures { Replies (λ v. v.items) (FromQueryText text.now schema.now
-        (λ _ _. FromQuery text.now database.now schema.now)) result }
+        (λ q _. FromDatabase database.now schema.now q)) result }
 {
     let asked = ask(alloc, schema, text)?;
-    drop(asked);
-    let form = form_of(alloc, text)?;
-    database_of(alloc, schema, database)?;
-    let bytes = report_on(alloc, &form)?;
+    let db = database_of(alloc, schema, database)?;
+    let valued = evaluated(alloc, schema, &db, &asked)?;
+    let query = asked.term_text(alloc)?;
+    let bytes = unchanged_report(alloc, &query, valued.visits, &valued.text)?;
     Ok(bytes)
 }
 

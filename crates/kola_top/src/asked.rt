@@ -34,6 +34,29 @@ pub struct Asked {
     term: Box<Term>,
 }
 
+impl Asked {
+    /// The query with its type.
+    pub fn typed(&self) -> &Typed
+        ensures { result.now ≡ self.now.typed.value }
+    {
+        &self.typed
+    }
+
+    /// The query's term.
+    pub fn term(&self) -> &Term
+        ensures { result.now ≡ self.now.term.value }
+    {
+        &self.term
+    }
+
+    /// The text of the query's term.
+    pub fn term_text(&self, alloc: Global) -> Result<Vec<u8>, Memory>
+        ensures { IfOk result (λ v. v.items ≡ term_spelling (term_tree self.now.term.value)) }
+    {
+        print_term(alloc, &self.term)
+    }
+}
+
 /// The query that a text spells.
 fn query_of(alloc: Global, text: &[u8]) -> Result<Box<Query>, Refusal>
     ensures { Passes (at_query_text text.now) (λ q. query_tree q.value) result }
@@ -83,7 +106,7 @@ fn translate_text(alloc: Global, asked: &Asked) -> Result<Vec<u8>, Memory>
     ensures { IfOk result (λ v. v.items
         ≡ translate_text (term_spelling (term_tree asked.now.term.value)) (type_spelling asked.now.typed.value.1)) }
 {
-    let term = print_term(alloc, &asked.term)?;
+    let term = asked.term_text(alloc)?;
     let ty = type_text(alloc, asked.typed.ty())?;
     let mut out = Vec::new(alloc);
     push_line(&mut out, b"query", &term)?;

@@ -1,10 +1,10 @@
-//! The lines of the faults of schemas, rules, queries and databases.
+//! The lines of the faults of schemas, rules, queries and databases, and of a spent limit of visits.
 
 ghost use Rattle.std.specs.Prelude.{◌≡◌, ◌++◌, IfOk, OnOk};
 ghost use Rattle.std.specs.String.{string_bytes};
 ghost use Rattle.oql_syntax.specs.QueryAnswers.{why_cause};
 ghost use Rattle.oql_syntax.specs.QueryFaults.{CNotInProfile};
-ghost use Rattle.kola_top.specs.FaultLines.{schema_line, rules_line, rule_line, query_fault_line, query_type_line, too_large_line, name_field, text_field, number_field, at_number, database_fields, database_line};
+ghost use Rattle.kola_top.specs.FaultLines.{schema_line, rules_line, rule_line, query_fault_line, query_type_line, too_large_line, visits_line, name_field, text_field, number_field, at_number, database_fields, database_line};
 
 use crate::output::query_line;
 use kola_base::TextWhy;
@@ -78,6 +78,13 @@ pub fn too_large_line(alloc: Global) -> Result<Vec<u8>, Memory>
     let mut out = Vec::new(alloc);
     push_bytes(&mut out, b"fault: term too large\n")?;
     Ok(out)
+}
+
+/// The line of a query whose term would visit more members than so many.
+pub fn visits_line(alloc: Global, limit: u64) -> Result<String, AllocError>
+    ensures { IfOk result (λ s. string_bytes s ≡ visits_line limit) }
+{
+    format!(in alloc; "fault: visits passed {limit}\n")
 }
 
 fn push_name_field(out: &mut Vec<u8>, name: &Name) -> Result<(), Memory>

@@ -1,19 +1,19 @@
 //! Why a job has no report, with the status and the line of each refusal.
 
 ghost use Rattle.std.specs.Prelude.{◌≡◌, true, IfOk};
-ghost use Rattle.kola_top.specs.FaultLines.{not_built_line};
 ghost use Rattle.kola_top.specs.Refusals.{is_told, status_of, line_of};
 
 use crate::fault_lines::{
     database_line, query_fault_line, query_type_line, rule_line, rules_line, schema_line,
-    too_large_line,
+    too_large_line, visits_line,
 };
 use crate::layout::LayoutFault;
-use crate::output::{layout_fault_line, missing_line, query_line};
+use crate::output::{layout_fault_line, missing_line};
 use crate::section::Section;
 use crate::status::Status;
 use kola_base::{TextFault, TextWhy};
 use kola_core::{Memory, Name};
+use kola_eval::EvalFault;
 use kola_load::{DbFault, SchemaFault, SchemaWhy};
 use kola_proof::{FileFault, StepWhy};
 use kola_translate::TranslateFault;
@@ -40,10 +40,10 @@ pub enum Refusal {
     QueryType(usize, CheckWhy),
     /// The query's term is larger than a term may be.
     TermTooLarge,
-    /// The query is none of those that can be answered.
-    NotBuilt,
     /// The database's text is refused.
     Database(DbFault),
+    /// The query's term would visit more members than so many.
+    Visits(u64),
     /// Memory is wanted.
     Memory,
 }
@@ -143,6 +143,20 @@ impl From<TranslateFault> for Refusal {
     }
 }
 
+impl From<EvalFault> for Refusal {
+    ghost use Rattle.std.specs.Prelude.{◌≡◌};
+    ghost use Rattle.kola_top.specs.Refusals.{of_eval};
+
+    ghost from_gives = { λ fault r. r ≡ of_eval fault };
+
+    fn from(fault: EvalFault) -> Refusal {
+        match fault {
+            EvalFault::VisitLimit { limit } => Refusal::Visits(limit),
+            EvalFault::Memory => Refusal::Memory,
+        }
+    }
+}
+
 impl From<Memory> for Refusal {
     ghost use Rattle.std.specs.Prelude.{◌≡◌};
     ghost use Rattle.kola_top.specs.declared.refusal.Refusal.TheVariants.{Memory};
@@ -174,9 +188,10 @@ impl Refusal {
             Refusal::Layout(_) | Refusal::Missing(_, _) => Status::Layout,
             Refusal::Schema(_, _) => Status::Schema,
             Refusal::Rules(_, _) | Refusal::Rule(_, _, _) => Status::Rules,
-            Refusal::Query(_, _) | Refusal::QueryType(_, _) | Refusal::NotBuilt => Status::Query,
+            Refusal::Query(_, _) | Refusal::QueryType(_, _) => Status::Query,
             Refusal::TermTooLarge => Status::TermTooLarge,
             Refusal::Database(_) => Status::Database,
+            Refusal::Visits(_) => Status::Visits,
             Refusal::Memory => Status::Memory,
         }
     }
@@ -199,8 +214,8 @@ impl Refusal {
             Refusal::Query(at, why) => Ok(query_fault_line(alloc, *at, why)?.into_bytes()),
             Refusal::QueryType(at, why) => Ok(query_type_line(alloc, *at, *why)?.into_bytes()),
             Refusal::TermTooLarge => too_large_line(alloc),
-            Refusal::NotBuilt => Ok(query_line(alloc, 0, "NotBuilt")?.into_bytes()),
             Refusal::Database(fault) => database_line(alloc, fault),
+            Refusal::Visits(limit) => Ok(visits_line(alloc, *limit)?.into_bytes()),
             Refusal::Memory => Err(AllocError),
         }
     }

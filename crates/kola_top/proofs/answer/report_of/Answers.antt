@@ -20,7 +20,7 @@ use Rattle.kola_top.specs.Stages.{text_in, rules_read, WritesRules}
 use Rattle.kola_top.specs.Report.{check_text}
 use Rattle.kola_top.specs.Answer.{report_of_check, report_of_translate}
 use Rattle.kola_top.specs.Staged.{onward}
-use Rattle.kola_top.specs.StageLine.{at_layout, at_place, at_schema, at_rules_text, at_rules, Reported, reported, BehindRules, FromRules, FromRulesText, FromSchema, FromPlace, FromQuery, FromQueryText, OnItsWay}
+use Rattle.kola_top.specs.StageLine.{at_layout, at_place, at_schema, at_rules_text, at_rules, Reported, reported, BehindRules, FromRules, FromRulesText, FromSchema, FromPlace, FromDatabase, FromQueryText, OnItsWay}
 use Rattle.kola_top.specs.Refusals.{Refuses, Replies, IsOf}
 use Rattle.kola_top.proofs.PlaceLaws.{place_within, place_fits, lines_within}
 use Rattle.kola_top.proofs.StageLaws.{stops, replies_too, refuses_too, handed}
@@ -53,11 +53,11 @@ translated view r x y Z S i j h =
     (subst (λ z. Replies view (FromQueryText x z (λ q t. Reported (report_of_translate z q t))) r) j h)
 
 ran : {T : Type 0} (view : T → List ℕ) (r : Result T Refusal) (x y d e : List ℕ) (Z S : Classes) → x ≡ y → d ≡ e → Z ≡ S
-    → Replies view (FromQueryText x Z (λ _ _. FromQuery x d Z)) r → Replies view (FromQueryText y S (λ _ _. FromQuery y e S)) r
+    → Replies view (FromQueryText x Z (λ q _. FromDatabase d Z q)) r → Replies view (FromQueryText y S (λ q _. FromDatabase e S q)) r
 ran view r x y d e Z S i k j h =
-    subst (λ z. Replies view (FromQueryText z S (λ _ _. FromQuery z e S)) r) i
-    (subst (λ z. Replies view (FromQueryText x S (λ _ _. FromQuery x z S)) r) k
-    (subst (λ z. Replies view (FromQueryText x z (λ _ _. FromQuery x d z)) r) j h))
+    subst (λ z. Replies view (FromQueryText z S (λ q _. FromDatabase e S q)) r) i
+    (subst (λ z. Replies view (FromQueryText x S (λ q _. FromDatabase z S q)) r) k
+    (subst (λ z. Replies view (FromQueryText x z (λ q _. FromDatabase d z q)) r) j h))
 
 pub needed_place-requires : goal.needed_place-requires
 needed_place-requires c = omega (arith, lines_within c.args.job.now c.in_ok-found.found ((c.in_ok-found.ensures.found c.in_ok-found.found).0 refl), c.requires)

@@ -25,4 +25,4 @@ returns c =
     let t = c.in_ok-asked.asked.typed.value.1 in
     asked_on S c.args.text.now c.in_ok-asked.asked (λ x y. Reported (report_of_translate S x y)) found _ _
     (subst (Reported (report_of_translate S q t) statuses.Ok)
-    (sym (c.in_ok-bytes.ensures ∙ ap (λ z. translate_text (term_spelling z) (type_spelling t)) found.term)) reported)
+    (sym (c.in_ok-bytes.ensures ∙ ap (λ z. translate_text (term_spelling z) (type_spelling t)) found.ready.term)) reported)

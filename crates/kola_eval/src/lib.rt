@@ -1,10 +1,10 @@
 //! The evaluator of terms: a term's value at a value in a database, with the members that it visits counted.
 #![tactic(auto)]
 
-mod eval;
+mod evaluation;
 mod fault;
 mod laws;
 
-pub use eval::{Evaluated, eval};
+pub use evaluation::{Evaluated, eval};
 pub use fault::EvalFault;
 pub use laws::the_order_of_objects_does_not_matter;

@@ -39,7 +39,7 @@ pub fn eval(
         (λ e. value_tree e.value ≡ den schema.now db.now.objects (fun_tree f.now) (value_tree v.now)) }
     ensures visits { IfOk result
         (λ e. e.visits ≡ visits schema.now db.now.objects (fun_tree f.now) (value_tree v.now)) }
-    ensures limit { IsWithin limit.entry (visits schema.now db.now.objects (fun_tree f.now) (value_tree v.now)) result }
+    ensures limit { IsWithin limit (visits schema.now db.now.objects (fun_tree f.now) (value_tree v.now)) result }
 {
     Err(EvalFault::Memory)
 }

@@ -1,1 +1,2 @@
 mod Reordered
+mod Constants

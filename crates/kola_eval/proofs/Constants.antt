@@ -1,5 +1,5 @@
 -- What is lent for a constant and an attribute.
-use Rattle.std.proofs.Common.{◌≡◌, ℕ, Bool, false, cond, List, [], ◌∷◌, Option, Some, None, option_map, refl, sym, ap, ◌∙◌}
+use Rattle.std.proofs.Common.{◌≡◌, ℕ, Bool, true, false, true≢false, cond, List, [], ◌∷◌, Option, Some, None, option_map, refl, sym, ap, ◌∙◌}
 use Rattle.kola_values.specs.Values.{ValueTree, VUnit, VInt, VBool, VStr, VObj, VPair, VStruct, VSet, VNone, of_items}
 use Rattle.kola_values.specs.Order.{same}
 use Rattle.kola_values.specs.Sets.{Rising, canon, set_of}
@@ -38,19 +38,23 @@ extent_found S db e r u h =
 
 -- ---- attributes
 
+abbrev pub is_object : ValueTree → Bool
+is_object (VObj c i) = true
+is_object _ = false
+
 -- what is no object has no attribute
 module _ (a : List ℕ) where
   none_of : (v : ValueTree) → ((c : List ℕ) (i : ℕ) → same v (VObj c i) ≡ false) → (d : Objects) → attribute_of a d v ≡ VUnit
   none_of v h [] = refl
   none_of v h (o ∷ d) = ap (λ b. cond b (value_or_unit (look_up a o.values)) (attribute_of a d v)) (h o.class o.id) ∙ none_of v h d
 
-  pub no_attribute : (v : ValueTree) → ((c : List ℕ) (i : ℕ) → v ≡ VObj c i → ⊥) → (d : Objects) → attribute_of a d v ≡ VUnit
+  pub no_attribute : (v : ValueTree) → is_object v ≡ false → (d : Objects) → attribute_of a d v ≡ VUnit
   unfolding same
   no_attribute VUnit h d = none_of VUnit (λ c i. refl) d
   no_attribute (VInt n) h d = none_of (VInt n) (λ c i. refl) d
   no_attribute (VBool b) h d = none_of (VBool b) (λ c i. refl) d
   no_attribute (VStr s) h d = none_of (VStr s) (λ c i. refl) d
-  no_attribute (VObj c i) h d = absurd (h c i refl)
+  no_attribute (VObj c i) h d = absurd (true≢false h)
   no_attribute (VPair v w) h d = none_of (VPair v w) (λ c i. refl) d
   no_attribute (VStruct fs) h d = none_of (VStruct fs) (λ c i. refl) d
   no_attribute (VSet vs) h d = none_of (VSet vs) (λ c i. refl) d

@@ -1,2 +1,3 @@
 mod Reordered
 mod Constants
+mod Taking

@@ -60,7 +60,7 @@ pub fn eval(
 {
     let run = Run::over(alloc, schema, db);
     let mut left = limit;
-    match boxed_at(&run, f, Lent::Whole(v), &mut left) {
+    match boxed_at(run, f, Lent::Whole(v), &mut left) {
         Ok(value) => finished(value, limit - left),
         Err(Stop::Limit) => Err(EvalFault::VisitLimit { limit }),
         Err(Stop::Memory) => Err(EvalFault::Memory),

@@ -23,9 +23,9 @@ use std::cmp::Ordering;
 
 // The value of a function at a value.
 #[cycle(terms)]
-fn fun_at<'a>(run: &Run<'a>, f: &'a Fun, x: Lent<'a>, left: &mut u64) -> Result<Held<'a>, Stop>
-    ensures value { IfOk result (λ h. held_tree h ≡ den_in run.now (fun_tree f.now) (lent_tree x.entry)) }
-    ensures paid { Paid (visits_in run.now (fun_tree f.now) (lent_tree x.entry)) left.old left.new result }
+fn fun_at<'a>(run: Run<'a>, f: &'a Fun, x: Lent<'a>, left: &mut u64) -> Result<Held<'a>, Stop>
+    ensures value { IfOk result (λ h. held_tree h ≡ den_in run.entry (fun_tree f.now) (lent_tree x.entry)) }
+    ensures paid { Paid (visits_in run.entry (fun_tree f.now) (lent_tree x.entry)) left.old left.new result }
 {
     match f {
         Fun::Id => Ok(Held::Lent(x)),
@@ -52,7 +52,7 @@ fn fun_at<'a>(run: &Run<'a>, f: &'a Fun, x: Lent<'a>, left: &mut u64) -> Result<
 }
 
 // The union of a set of sets: a visit for each of them.
-fn flattened<'a>(run: &Run<'a>, x: Lent<'_>, left: &mut u64) -> Result<Held<'a>, Stop>
+fn flattened<'a>(run: Run<'a>, x: Lent<'_>, left: &mut u64) -> Result<Held<'a>, Stop>
     ensures value { IfOk result (λ h. held_tree h ≡ set_of (flat_map members (members (lent_tree x.entry)))) }
     ensures paid { Paid (length (members (lent_tree x.entry))) left.old left.new result }
 {
@@ -65,16 +65,16 @@ fn flattened<'a>(run: &Run<'a>, x: Lent<'_>, left: &mut u64) -> Result<Held<'a>,
 // The value of `f` at the pair of two values.
 #[cycle(terms)]
 fn beside<'a>(
-    run: &Run<'a>,
+    run: Run<'a>,
     f: &Fun,
     v: Lent<'_>,
     w: Lent<'_>,
     left: &mut u64,
 ) -> Result<Held<'a>, Stop>
-    ensures value { IfOk result (λ h. held_tree h ≡ den_in run.now (fun_tree f.now) (VPair (lent_tree v.entry) (lent_tree w.entry))) }
-    ensures paid { Paid (visits_in run.now (fun_tree f.now) (VPair (lent_tree v.entry) (lent_tree w.entry))) left.old left.new result }
+    ensures value { IfOk result (λ h. held_tree h ≡ den_in run.entry (fun_tree f.now) (VPair (lent_tree v.entry) (lent_tree w.entry))) }
+    ensures paid { Paid (visits_in run.entry (fun_tree f.now) (VPair (lent_tree v.entry) (lent_tree w.entry))) left.old left.new result }
 {
-    let value = fun_at(run, f, Lent::Pair(&v, &w), left)?;
+    let value = fun_at(run, &*f, Lent::Pair(&v, &w), left)?;
     let value = value.into_boxed(run.alloc)?;
     Ok(Held::Own(value))
 }
@@ -82,15 +82,15 @@ fn beside<'a>(
 // The value of `f` at a value that goes.
 #[cycle(terms)]
 fn behind<'a>(
-    run: &Run<'a>,
+    run: Run<'a>,
     f: &Fun,
     v: BoxedValue,
     left: &mut u64,
 ) -> Result<Held<'a>, Stop>
-    ensures value { IfOk result (λ h. held_tree h ≡ den_in run.now (fun_tree f.now) v) }
-    ensures paid { Paid (visits_in run.now (fun_tree f.now) v) left.old left.new result }
+    ensures value { IfOk result (λ h. held_tree h ≡ den_in run.entry (fun_tree f.now) v) }
+    ensures paid { Paid (visits_in run.entry (fun_tree f.now) v) left.old left.new result }
 {
-    let value = fun_at(run, f, Lent::Whole(v.get()), left)?;
+    let value = fun_at(run, &*f, Lent::Whole(v.get()), left)?;
     let value = value.into_boxed(run.alloc)?;
     Ok(Held::Own(value))
 }
@@ -98,14 +98,14 @@ fn behind<'a>(
 // The value of `f` at that of `g`.
 #[cycle(terms)]
 fn composed<'a>(
-    run: &Run<'a>,
+    run: Run<'a>,
     f: &'a Fun,
     g: &'a Fun,
     x: Lent<'a>,
     left: &mut u64,
 ) -> Result<Held<'a>, Stop>
-    ensures value { IfOk result (λ h. held_tree h ≡ den_in run.now (fun_tree f.now) (den_in run.now (fun_tree g.now) (lent_tree x.entry))) }
-    ensures paid { Paid (visits_in run.now (fun_tree g.now) (lent_tree x.entry) + visits_in run.now (fun_tree f.now) (den_in run.now (fun_tree g.now) (lent_tree x.entry))) left.old left.new result }
+    ensures value { IfOk result (λ h. held_tree h ≡ den_in run.entry (fun_tree f.now) (den_in run.entry (fun_tree g.now) (lent_tree x.entry))) }
+    ensures paid { Paid (visits_in run.entry (fun_tree g.now) (lent_tree x.entry) + visits_in run.entry (fun_tree f.now) (den_in run.entry (fun_tree g.now) (lent_tree x.entry))) left.old left.new result }
 {
     match pairing(g, x) {
         Some(parts) => composed_pair(run, f, parts, left),
@@ -116,30 +116,30 @@ fn composed<'a>(
 // The value of `f` at the pair of two values that are never put together.
 #[cycle(terms)]
 fn composed_pair<'a>(
-    run: &Run<'a>,
+    run: Run<'a>,
     f: &Fun,
     parts: Parts<'a>,
     left: &mut u64,
 ) -> Result<Held<'a>, Stop>
-    ensures value { IfOk result (λ h. held_tree h ≡ den_in run.now (fun_tree f.now) (VPair (den_in run.now (fun_tree parts.f.now) (lent_tree parts.x)) (den_in run.now (fun_tree parts.g.now) (lent_tree parts.y)))) }
-    ensures paid { Paid ((visits_in run.now (fun_tree parts.f.now) (lent_tree parts.x) + visits_in run.now (fun_tree parts.g.now) (lent_tree parts.y)) + visits_in run.now (fun_tree f.now) (VPair (den_in run.now (fun_tree parts.f.now) (lent_tree parts.x)) (den_in run.now (fun_tree parts.g.now) (lent_tree parts.y)))) left.old left.new result }
+    ensures value { IfOk result (λ h. held_tree h ≡ den_in run.entry (fun_tree f.now) (VPair (den_in run.entry (fun_tree parts.entry.f.now) (lent_tree parts.entry.x)) (den_in run.entry (fun_tree parts.entry.g.now) (lent_tree parts.entry.y)))) }
+    ensures paid { Paid ((visits_in run.entry (fun_tree parts.entry.f.now) (lent_tree parts.entry.x) + visits_in run.entry (fun_tree parts.entry.g.now) (lent_tree parts.entry.y)) + visits_in run.entry (fun_tree f.now) (VPair (den_in run.entry (fun_tree parts.entry.f.now) (lent_tree parts.entry.x)) (den_in run.entry (fun_tree parts.entry.g.now) (lent_tree parts.entry.y)))) left.old left.new result }
 {
     let v = fun_at(run, parts.f, parts.x, left)?;
     let w = fun_at(run, parts.g, parts.y, left)?;
-    beside(run, f, v.as_lent(), w.as_lent(), left)
+    beside(run, &*f, v.as_lent(), w.as_lent(), left)
 }
 
 // The value of `f` at that of `g`, which stands whole.
 #[cycle(terms)]
 fn composed_whole<'a>(
-    run: &Run<'a>,
+    run: Run<'a>,
     f: &'a Fun,
     g: &'a Fun,
     x: Lent<'a>,
     left: &mut u64,
 ) -> Result<Held<'a>, Stop>
-    ensures value { IfOk result (λ h. held_tree h ≡ den_in run.now (fun_tree f.now) (den_in run.now (fun_tree g.now) (lent_tree x.entry))) }
-    ensures paid { Paid (visits_in run.now (fun_tree g.now) (lent_tree x.entry) + visits_in run.now (fun_tree f.now) (den_in run.now (fun_tree g.now) (lent_tree x.entry))) left.old left.new result }
+    ensures value { IfOk result (λ h. held_tree h ≡ den_in run.entry (fun_tree f.now) (den_in run.entry (fun_tree g.now) (lent_tree x.entry))) }
+    ensures paid { Paid (visits_in run.entry (fun_tree g.now) (lent_tree x.entry) + visits_in run.entry (fun_tree f.now) (den_in run.entry (fun_tree g.now) (lent_tree x.entry))) left.old left.new result }
 {
     match fun_at(run, g, x, left)? {
         Held::Lent(v) => fun_at(run, f, v, left),
@@ -150,15 +150,15 @@ fn composed_whole<'a>(
 // The value of `f` in a box.
 #[cycle(terms)]
 pub(crate) fn boxed_at(
-    run: &Run<'_>,
+    run: Run<'_>,
     f: &Fun,
     x: Lent<'_>,
     left: &mut u64,
 ) -> Result<BoxedValue, Stop>
-    ensures value { IfOk result (λ h. h ≡ den_in run.now (fun_tree f.now) (lent_tree x.entry)) }
-    ensures paid { Paid (visits_in run.now (fun_tree f.now) (lent_tree x.entry)) left.old left.new result }
+    ensures value { IfOk result (λ h. h ≡ den_in run.entry (fun_tree f.now) (lent_tree x.entry)) }
+    ensures paid { Paid (visits_in run.entry (fun_tree f.now) (lent_tree x.entry)) left.old left.new result }
 {
-    let value = fun_at(run, f, x, left)?;
+    let value = fun_at(run, &*f, x, left)?;
     let value = value.into_boxed(run.alloc)?;
     Ok(value)
 }
@@ -166,18 +166,18 @@ pub(crate) fn boxed_at(
 // The pair of two values.
 #[cycle(terms)]
 fn both<'a>(
-    run: &Run<'a>,
+    run: Run<'a>,
     f: &Fun,
     x: Lent<'_>,
     g: &Fun,
     y: Lent<'_>,
     left: &mut u64,
 ) -> Result<Held<'a>, Stop>
-    ensures value { IfOk result (λ h. held_tree h ≡ VPair (den_in run.now (fun_tree f.now) (lent_tree x.entry)) (den_in run.now (fun_tree g.now) (lent_tree y.entry))) }
-    ensures paid { Paid (visits_in run.now (fun_tree f.now) (lent_tree x.entry) + visits_in run.now (fun_tree g.now) (lent_tree y.entry)) left.old left.new result }
+    ensures value { IfOk result (λ h. held_tree h ≡ VPair (den_in run.entry (fun_tree f.now) (lent_tree x.entry)) (den_in run.entry (fun_tree g.now) (lent_tree y.entry))) }
+    ensures paid { Paid (visits_in run.entry (fun_tree f.now) (lent_tree x.entry) + visits_in run.entry (fun_tree g.now) (lent_tree y.entry)) left.old left.new result }
 {
-    let v = boxed_at(run, f, x, left)?;
-    let w = boxed_at(run, g, y, left)?;
+    let v = boxed_at(run, &*f, x, left)?;
+    let w = boxed_at(run, &*g, y, left)?;
     let pair = BoxedValue::new(run.alloc, Value::Pair(v, w))?;
     Ok(Held::Own(pair))
 }
@@ -185,17 +185,17 @@ fn both<'a>(
 // The value of `f` where `p` holds, and else that of `g`.
 #[cycle(terms)]
 fn chosen<'a>(
-    run: &Run<'a>,
+    run: Run<'a>,
     p: &Pred,
     f: &'a Fun,
     g: &'a Fun,
     x: Lent<'a>,
     left: &mut u64,
 ) -> Result<Held<'a>, Stop>
-    ensures value { IfOk result (λ h. held_tree h ≡ cond (holds_in run.now (pred_tree p.now) (lent_tree x.entry)) (den_in run.now (fun_tree f.now) (lent_tree x.entry)) (den_in run.now (fun_tree g.now) (lent_tree x.entry))) }
-    ensures paid { Paid (checks_in run.now (pred_tree p.now) (lent_tree x.entry) + cond (holds_in run.now (pred_tree p.now) (lent_tree x.entry)) (visits_in run.now (fun_tree f.now) (lent_tree x.entry)) (visits_in run.now (fun_tree g.now) (lent_tree x.entry))) left.old left.new result }
+    ensures value { IfOk result (λ h. held_tree h ≡ cond (holds_in run.entry (pred_tree p.now) (lent_tree x.entry)) (den_in run.entry (fun_tree f.now) (lent_tree x.entry)) (den_in run.entry (fun_tree g.now) (lent_tree x.entry))) }
+    ensures paid { Paid (checks_in run.entry (pred_tree p.now) (lent_tree x.entry) + cond (holds_in run.entry (pred_tree p.now) (lent_tree x.entry)) (visits_in run.entry (fun_tree f.now) (lent_tree x.entry)) (visits_in run.entry (fun_tree g.now) (lent_tree x.entry))) left.old left.new result }
 {
-    if pred_at(run, p, x, left)? {
+    if pred_at(run, &*p, x, left)? {
         fun_at(run, f, x, left)
     } else {
         fun_at(run, g, x, left)
@@ -205,16 +205,16 @@ fn chosen<'a>(
 // Adds the value of `f`.
 #[cycle(terms)]
 fn add(
-    run: &Run<'_>,
+    run: Run<'_>,
     f: &Fun,
     x: Lent<'_>,
     made: &mut Vec<Value>,
     left: &mut u64,
 ) -> Result<(), Stop>
-    ensures made { OnOk result (map value_tree made.new.items ≡ map value_tree made.old.items ++ den_in run.now (fun_tree f.now) (lent_tree x.entry) ∷ []) }
-    ensures paid { Paid (visits_in run.now (fun_tree f.now) (lent_tree x.entry)) left.old left.new result }
+    ensures made { OnOk result (map value_tree made.new.items ≡ map value_tree made.old.items ++ den_in run.entry (fun_tree f.now) (lent_tree x.entry) ∷ []) }
+    ensures paid { Paid (visits_in run.entry (fun_tree f.now) (lent_tree x.entry)) left.old left.new result }
 {
-    let value = fun_at(run, f, x, left)?;
+    let value = fun_at(run, &*f, x, left)?;
     push_held(run.alloc, made, value)?;
     Ok(())
 }
@@ -222,19 +222,19 @@ fn add(
 // Visits a member: adds the value of `f` where `p` holds.
 #[cycle(terms)]
 fn visit(
-    run: &Run<'_>,
+    run: Run<'_>,
     p: &Pred,
     f: &Fun,
     x: Lent<'_>,
     made: &mut Vec<Value>,
     left: &mut u64,
 ) -> Result<(), Stop>
-    ensures made { OnOk result (map value_tree made.new.items ≡ map value_tree made.old.items ++ cond (holds_in run.now (pred_tree p.now) (lent_tree x.entry)) (den_in run.now (fun_tree f.now) (lent_tree x.entry) ∷ []) []) }
-    ensures paid { Paid (member_visits run.now (pred_tree p.now) (fun_tree f.now) (lent_tree x.entry)) left.old left.new result }
+    ensures made { OnOk result (map value_tree made.new.items ≡ map value_tree made.old.items ++ cond (holds_in run.entry (pred_tree p.now) (lent_tree x.entry)) (den_in run.entry (fun_tree f.now) (lent_tree x.entry) ∷ []) []) }
+    ensures paid { Paid (member_visits run.entry (pred_tree p.now) (fun_tree f.now) (lent_tree x.entry)) left.old left.new result }
 {
     pay(left, 1)?;
-    if pred_at(run, p, x, left)? {
-        add(run, f, x, made, left)
+    if pred_at(run, &*p, x, left)? {
+        add(run, &*f, x, made, left)
     } else {
         Ok(())
     }
@@ -243,7 +243,7 @@ fn visit(
 // Visits a member with a value before it.
 #[cycle(terms)]
 fn visit_beside(
-    run: &Run<'_>,
+    run: Run<'_>,
     p: &Pred,
     f: &Fun,
     x: Lent<'_>,
@@ -251,28 +251,28 @@ fn visit_beside(
     made: &mut Vec<Value>,
     left: &mut u64,
 ) -> Result<(), Stop>
-    ensures made { OnOk result (map value_tree made.new.items ≡ map value_tree made.old.items ++ cond (holds_in run.now (pred_tree p.now) (VPair (lent_tree x.entry) (value_tree y.now))) (den_in run.now (fun_tree f.now) (VPair (lent_tree x.entry) (value_tree y.now)) ∷ []) []) }
-    ensures paid { Paid (member_visits run.now (pred_tree p.now) (fun_tree f.now) (VPair (lent_tree x.entry) (value_tree y.now))) left.old left.new result }
+    ensures made { OnOk result (map value_tree made.new.items ≡ map value_tree made.old.items ++ cond (holds_in run.entry (pred_tree p.now) (VPair (lent_tree x.entry) (value_tree y.now))) (den_in run.entry (fun_tree f.now) (VPair (lent_tree x.entry) (value_tree y.now)) ∷ []) []) }
+    ensures paid { Paid (member_visits run.entry (pred_tree p.now) (fun_tree f.now) (VPair (lent_tree x.entry) (value_tree y.now))) left.old left.new result }
 {
-    let y = Lent::Whole(y);
-    visit(run, p, f, Lent::Pair(&x, &y), made, left)
+    let y = Lent::Whole(&*y);
+    visit(run, &*p, &*f, Lent::Pair(&x, &y), made, left)
 }
 
 // The values of `f` at the members where `p` holds.
 #[cycle(terms)]
 fn iterated<'a>(
-    run: &Run<'a>,
+    run: Run<'a>,
     p: &Pred,
     f: &Fun,
     members: &[Value],
     left: &mut u64,
 ) -> Result<Held<'a>, Stop>
-    ensures value { IfOk result (λ h. held_tree h ≡ set_of (map (λ x. den_in run.now (fun_tree f.now) x) (filter (λ x. holds_in run.now (pred_tree p.now) x) (map value_tree members.now)))) }
-    ensures paid { Paid (sum_by (λ x. member_visits run.now (pred_tree p.now) (fun_tree f.now) x) (map value_tree members.now)) left.old left.new result }
+    ensures value { IfOk result (λ h. held_tree h ≡ set_of (map (λ x. den_in run.entry (fun_tree f.now) x) (filter (λ x. holds_in run.entry (pred_tree p.now) x) (map value_tree members.now)))) }
+    ensures paid { Paid (sum_by (λ x. member_visits run.entry (pred_tree p.now) (fun_tree f.now) x) (map value_tree members.now)) left.old left.new result }
 {
     let mut made = Vec::new(run.alloc);
     for x in members {
-        visit(run, p, f, Lent::Whole(x), &mut made, left)?;
+        visit(run, &*p, &*f, Lent::Whole(x), &mut made, left)?;
     }
     let set = set_of(made)?;
     Ok(Held::Own(set))
@@ -281,7 +281,7 @@ fn iterated<'a>(
 // Adds the values of `f` at the pairs of a value and a member where `p` holds.
 #[cycle(terms)]
 fn visit_each(
-    run: &Run<'_>,
+    run: Run<'_>,
     p: &Pred,
     f: &Fun,
     x: Lent<'_>,
@@ -289,11 +289,11 @@ fn visit_each(
     made: &mut Vec<Value>,
     left: &mut u64,
 ) -> Result<(), Stop>
-    ensures made { OnOk result (map value_tree made.new.items ≡ map value_tree made.old.items ++ map (λ y. den_in run.now (fun_tree f.now) (VPair (lent_tree x.entry) y)) (filter (λ y. holds_in run.now (pred_tree p.now) (VPair (lent_tree x.entry) y)) (map value_tree members.now))) }
-    ensures paid { Paid (sum_by (λ y. member_visits run.now (pred_tree p.now) (fun_tree f.now) (VPair (lent_tree x.entry) y)) (map value_tree members.now)) left.old left.new result }
+    ensures made { OnOk result (map value_tree made.new.items ≡ map value_tree made.old.items ++ map (λ y. den_in run.entry (fun_tree f.now) (VPair (lent_tree x.entry) y)) (filter (λ y. holds_in run.entry (pred_tree p.now) (VPair (lent_tree x.entry) y)) (map value_tree members.now))) }
+    ensures paid { Paid (sum_by (λ y. member_visits run.entry (pred_tree p.now) (fun_tree f.now) (VPair (lent_tree x.entry) y)) (map value_tree members.now)) left.old left.new result }
 {
     for y in members {
-        visit_beside(run, p, f, x, y, made, left)?;
+        visit_beside(run, &*p, &*f, x, y, made, left)?;
     }
     Ok(())
 }
@@ -301,18 +301,18 @@ fn visit_each(
 // The values of `f` at the pairs of a value and a member where `p` holds.
 #[cycle(terms)]
 fn paired_with<'a>(
-    run: &Run<'a>,
+    run: Run<'a>,
     p: &Pred,
     f: &Fun,
     x: Lent<'_>,
     members: &[Value],
     left: &mut u64,
 ) -> Result<Held<'a>, Stop>
-    ensures value { IfOk result (λ h. held_tree h ≡ set_of (map (λ y. den_in run.now (fun_tree f.now) (VPair (lent_tree x.entry) y)) (filter (λ y. holds_in run.now (pred_tree p.now) (VPair (lent_tree x.entry) y)) (map value_tree members.now)))) }
-    ensures paid { Paid (sum_by (λ y. member_visits run.now (pred_tree p.now) (fun_tree f.now) (VPair (lent_tree x.entry) y)) (map value_tree members.now)) left.old left.new result }
+    ensures value { IfOk result (λ h. held_tree h ≡ set_of (map (λ y. den_in run.entry (fun_tree f.now) (VPair (lent_tree x.entry) y)) (filter (λ y. holds_in run.entry (pred_tree p.now) (VPair (lent_tree x.entry) y)) (map value_tree members.now)))) }
+    ensures paid { Paid (sum_by (λ y. member_visits run.entry (pred_tree p.now) (fun_tree f.now) (VPair (lent_tree x.entry) y)) (map value_tree members.now)) left.old left.new result }
 {
     let mut made = Vec::new(run.alloc);
-    visit_each(run, p, f, x, members, &mut made, left)?;
+    visit_each(run, &*p, &*f, x, &*members, &mut made, left)?;
     let set = set_of(made)?;
     Ok(Held::Own(set))
 }
@@ -320,19 +320,19 @@ fn paired_with<'a>(
 // The values of `f` at the pairs of members of two sets where `p` holds.
 #[cycle(terms)]
 fn crossed<'a>(
-    run: &Run<'a>,
+    run: Run<'a>,
     p: &Pred,
     f: &Fun,
     first: &[Value],
     second: &[Value],
     left: &mut u64,
 ) -> Result<Held<'a>, Stop>
-    ensures value { IfOk result (λ h. held_tree h ≡ set_of (flat_map (λ x. map (λ y. den_in run.now (fun_tree f.now) (VPair x y)) (filter (λ y. holds_in run.now (pred_tree p.now) (VPair x y)) (map value_tree second.now))) (map value_tree first.now))) }
-    ensures paid { Paid (sum_by (λ x. sum_by (λ y. member_visits run.now (pred_tree p.now) (fun_tree f.now) (VPair x y)) (map value_tree second.now)) (map value_tree first.now)) left.old left.new result }
+    ensures value { IfOk result (λ h. held_tree h ≡ set_of (flat_map (λ x. map (λ y. den_in run.entry (fun_tree f.now) (VPair x y)) (filter (λ y. holds_in run.entry (pred_tree p.now) (VPair x y)) (map value_tree second.now))) (map value_tree first.now))) }
+    ensures paid { Paid (sum_by (λ x. sum_by (λ y. member_visits run.entry (pred_tree p.now) (fun_tree f.now) (VPair x y)) (map value_tree second.now)) (map value_tree first.now)) left.old left.new result }
 {
     let mut made = Vec::new(run.alloc);
     for x in first {
-        visit_each(run, p, f, Lent::Whole(x), second, &mut made, left)?;
+        visit_each(run, &*p, &*f, Lent::Whole(x), &*second, &mut made, left)?;
     }
     let set = set_of(made)?;
     Ok(Held::Own(set))
@@ -341,24 +341,24 @@ fn crossed<'a>(
 // Whether the value of `f` at a member is the other.
 #[cycle(terms)]
 fn is_at(
-    run: &Run<'_>,
+    run: Run<'_>,
     f: &Fun,
     x: &Value,
     y: &Value,
     left: &mut u64,
 ) -> Result<bool, Stop>
-    ensures value { IfOk result (λ h. h ≡ same (den_in run.now (fun_tree f.now) (value_tree x.now)) (value_tree y.now)) }
-    ensures paid { Paid (visits_in run.now (fun_tree f.now) (value_tree x.now)) left.old left.new result }
+    ensures value { IfOk result (λ h. h ≡ same (den_in run.entry (fun_tree f.now) (value_tree x.now)) (value_tree y.now)) }
+    ensures paid { Paid (visits_in run.entry (fun_tree f.now) (value_tree x.now)) left.old left.new result }
 {
-    let value = fun_at(run, f, Lent::Whole(x), left)?;
-    let order = compared(run.alloc, value.as_lent(), Lent::Whole(y))?;
+    let value = fun_at(run, &*f, Lent::Whole(&*x), left)?;
+    let order = compared(run.alloc, value.as_lent(), Lent::Whole(&*y))?;
     Ok(order.is_eq())
 }
 
 // Visits a member: adds the value of `g` where that of `f` is the other.
 #[cycle(terms)]
 fn visit_match(
-    run: &Run<'_>,
+    run: Run<'_>,
     f: &Fun,
     g: &Fun,
     x: &Value,
@@ -366,12 +366,12 @@ fn visit_match(
     made: &mut Vec<Value>,
     left: &mut u64,
 ) -> Result<(), Stop>
-    ensures made { OnOk result (map value_tree made.new.items ≡ map value_tree made.old.items ++ cond (same (den_in run.now (fun_tree f.now) (value_tree x.now)) (value_tree y.now)) (den_in run.now (fun_tree g.now) (value_tree x.now) ∷ []) []) }
-    ensures paid { Paid (1 + visits_in run.now (fun_tree f.now) (value_tree x.now) + cond (same (den_in run.now (fun_tree f.now) (value_tree x.now)) (value_tree y.now)) (visits_in run.now (fun_tree g.now) (value_tree x.now)) 0) left.old left.new result }
+    ensures made { OnOk result (map value_tree made.new.items ≡ map value_tree made.old.items ++ cond (same (den_in run.entry (fun_tree f.now) (value_tree x.now)) (value_tree y.now)) (den_in run.entry (fun_tree g.now) (value_tree x.now) ∷ []) []) }
+    ensures paid { Paid (1 + visits_in run.entry (fun_tree f.now) (value_tree x.now) + cond (same (den_in run.entry (fun_tree f.now) (value_tree x.now)) (value_tree y.now)) (visits_in run.entry (fun_tree g.now) (value_tree x.now)) 0) left.old left.new result }
 {
     pay(left, 1)?;
-    if is_at(run, f, x, y, left)? {
-        add(run, g, Lent::Whole(x), made, left)
+    if is_at(run, &*f, &*x, &*y, left)? {
+        add(run, &*g, Lent::Whole(&*x), made, left)
     } else {
         Ok(())
     }
@@ -380,19 +380,19 @@ fn visit_match(
 // The values of `g` at the members where that of `f` is the other.
 #[cycle(terms)]
 fn matches_of(
-    run: &Run<'_>,
+    run: Run<'_>,
     f: &Fun,
     g: &Fun,
     y: &Value,
     members: &[Value],
     left: &mut u64,
 ) -> Result<BoxedValue, Stop>
-    ensures value { IfOk result (λ h. h ≡ set_of (map (λ x. den_in run.now (fun_tree g.now) x) (filter (λ x. same (den_in run.now (fun_tree f.now) x) (value_tree y.now)) (map value_tree members.now)))) }
-    ensures paid { Paid (sum_by (λ x. 1 + visits_in run.now (fun_tree f.now) x + cond (same (den_in run.now (fun_tree f.now) x) (value_tree y.now)) (visits_in run.now (fun_tree g.now) x) 0) (map value_tree members.now)) left.old left.new result }
+    ensures value { IfOk result (λ h. h ≡ set_of (map (λ x. den_in run.entry (fun_tree g.now) x) (filter (λ x. same (den_in run.entry (fun_tree f.now) x) (value_tree y.now)) (map value_tree members.now)))) }
+    ensures paid { Paid (sum_by (λ x. 1 + visits_in run.entry (fun_tree f.now) x + cond (same (den_in run.entry (fun_tree f.now) x) (value_tree y.now)) (visits_in run.entry (fun_tree g.now) x) 0) (map value_tree members.now)) left.old left.new result }
 {
     let mut made = Vec::new(run.alloc);
     for x in members {
-        visit_match(run, f, g, x, y, &mut made, left)?;
+        visit_match(run, &*f, &*g, x, &*y, &mut made, left)?;
     }
     let set = set_of(made)?;
     Ok(set)
@@ -401,7 +401,7 @@ fn matches_of(
 // Adds a member with its matches.
 #[cycle(terms)]
 fn add_matches(
-    run: &Run<'_>,
+    run: Run<'_>,
     f: &Fun,
     g: &Fun,
     y: &Value,
@@ -409,30 +409,30 @@ fn add_matches(
     made: &mut Vec<Value>,
     left: &mut u64,
 ) -> Result<(), Stop>
-    ensures made { OnOk result (map value_tree made.new.items ≡ map value_tree made.old.items ++ VPair (value_tree y.now) (set_of (map (λ x. den_in run.now (fun_tree g.now) x) (filter (λ x. same (den_in run.now (fun_tree f.now) x) (value_tree y.now)) (map value_tree members.now)))) ∷ []) }
-    ensures paid { Paid (sum_by (λ x. 1 + visits_in run.now (fun_tree f.now) x + cond (same (den_in run.now (fun_tree f.now) x) (value_tree y.now)) (visits_in run.now (fun_tree g.now) x) 0) (map value_tree members.now)) left.old left.new result }
+    ensures made { OnOk result (map value_tree made.new.items ≡ map value_tree made.old.items ++ VPair (value_tree y.now) (set_of (map (λ x. den_in run.entry (fun_tree g.now) x) (filter (λ x. same (den_in run.entry (fun_tree f.now) x) (value_tree y.now)) (map value_tree members.now)))) ∷ []) }
+    ensures paid { Paid (sum_by (λ x. 1 + visits_in run.entry (fun_tree f.now) x + cond (same (den_in run.entry (fun_tree f.now) x) (value_tree y.now)) (visits_in run.entry (fun_tree g.now) x) 0) (map value_tree members.now)) left.old left.new result }
 {
-    let set = matches_of(run, f, g, y, members, left)?;
-    push_before(run.alloc, made, y, set)?;
+    let set = matches_of(run, &*f, &*g, &*y, &*members, left)?;
+    push_before(run.alloc, made, &*y, set)?;
     Ok(())
 }
 
 // Each member of the second list with the values of `g` at its matches in the first.
 #[cycle(terms)]
 fn nested<'a>(
-    run: &Run<'a>,
+    run: Run<'a>,
     f: &Fun,
     g: &Fun,
     first: &[Value],
     second: &[Value],
     left: &mut u64,
 ) -> Result<Held<'a>, Stop>
-    ensures value { IfOk result (λ h. held_tree h ≡ set_of (map (λ y. VPair y (set_of (map (λ x. den_in run.now (fun_tree g.now) x) (filter (λ x. same (den_in run.now (fun_tree f.now) x) y) (map value_tree first.now))))) (map value_tree second.now))) }
-    ensures paid { Paid (sum_by (λ y. sum_by (λ x. 1 + visits_in run.now (fun_tree f.now) x + cond (same (den_in run.now (fun_tree f.now) x) y) (visits_in run.now (fun_tree g.now) x) 0) (map value_tree first.now)) (map value_tree second.now)) left.old left.new result }
+    ensures value { IfOk result (λ h. held_tree h ≡ set_of (map (λ y. VPair y (set_of (map (λ x. den_in run.entry (fun_tree g.now) x) (filter (λ x. same (den_in run.entry (fun_tree f.now) x) y) (map value_tree first.now))))) (map value_tree second.now))) }
+    ensures paid { Paid (sum_by (λ y. sum_by (λ x. 1 + visits_in run.entry (fun_tree f.now) x + cond (same (den_in run.entry (fun_tree f.now) x) y) (visits_in run.entry (fun_tree g.now) x) 0) (map value_tree first.now)) (map value_tree second.now)) left.old left.new result }
 {
     let mut made = Vec::new(run.alloc);
     for y in second {
-        add_matches(run, f, g, y, first, &mut made, left)?;
+        add_matches(run, &*f, &*g, y, &*first, &mut made, left)?;
     }
     let set = set_of(made)?;
     Ok(Held::Own(set))
@@ -441,56 +441,56 @@ fn nested<'a>(
 // Adds the pairs of the value of `f` with each member of that of `g`, at a visit each.
 #[cycle(terms)]
 fn add_pairs(
-    run: &Run<'_>,
+    run: Run<'_>,
     a: &BoxedValue,
     g: &Fun,
     x: &Value,
     made: &mut Vec<Value>,
     left: &mut u64,
 ) -> Result<(), Stop>
-    ensures made { OnOk result (map value_tree made.new.items ≡ map value_tree made.old.items ++ map (λ y. VPair a.now y) (members (den_in run.now (fun_tree g.now) (value_tree x.now)))) }
-    ensures paid { Paid (visits_in run.now (fun_tree g.now) (value_tree x.now) + length (members (den_in run.now (fun_tree g.now) (value_tree x.now)))) left.old left.new result }
+    ensures made { OnOk result (map value_tree made.new.items ≡ map value_tree made.old.items ++ map (λ y. VPair a.now y) (members (den_in run.entry (fun_tree g.now) (value_tree x.now)))) }
+    ensures paid { Paid (visits_in run.entry (fun_tree g.now) (value_tree x.now) + length (members (den_in run.entry (fun_tree g.now) (value_tree x.now)))) left.old left.new result }
 {
-    let set = fun_at(run, g, Lent::Whole(x), left)?;
+    let set = fun_at(run, &*g, Lent::Whole(&*x), left)?;
     let values = members_in(set.as_lent());
     pay(left, values.len() as u64)?;
-    push_pairs(run.alloc, made, a, values)?;
+    push_pairs(run.alloc, made, &*a, values)?;
     Ok(())
 }
 
 // Visits a member.
 #[cycle(terms)]
 fn visit_pairs(
-    run: &Run<'_>,
+    run: Run<'_>,
     f: &Fun,
     g: &Fun,
     x: &Value,
     made: &mut Vec<Value>,
     left: &mut u64,
 ) -> Result<(), Stop>
-    ensures made { OnOk result (map value_tree made.new.items ≡ map value_tree made.old.items ++ map (λ y. VPair (den_in run.now (fun_tree f.now) (value_tree x.now)) y) (members (den_in run.now (fun_tree g.now) (value_tree x.now)))) }
-    ensures paid { Paid (1 + visits_in run.now (fun_tree f.now) (value_tree x.now) + visits_in run.now (fun_tree g.now) (value_tree x.now) + length (members (den_in run.now (fun_tree g.now) (value_tree x.now)))) left.old left.new result }
+    ensures made { OnOk result (map value_tree made.new.items ≡ map value_tree made.old.items ++ map (λ y. VPair (den_in run.entry (fun_tree f.now) (value_tree x.now)) y) (members (den_in run.entry (fun_tree g.now) (value_tree x.now)))) }
+    ensures paid { Paid (1 + visits_in run.entry (fun_tree f.now) (value_tree x.now) + visits_in run.entry (fun_tree g.now) (value_tree x.now) + length (members (den_in run.entry (fun_tree g.now) (value_tree x.now)))) left.old left.new result }
 {
     pay(left, 1)?;
-    let a = boxed_at(run, f, Lent::Whole(x), left)?;
-    add_pairs(run, &a, g, x, made, left)
+    let a = boxed_at(run, &*f, Lent::Whole(&*x), left)?;
+    add_pairs(run, &a, &*g, &*x, made, left)
 }
 
 // The value of `f` at each member, paired with each member of that of `g`.
 #[cycle(terms)]
 fn unnested<'a>(
-    run: &Run<'a>,
+    run: Run<'a>,
     f: &Fun,
     g: &Fun,
-    members: &[Value],
+    values: &[Value],
     left: &mut u64,
 ) -> Result<Held<'a>, Stop>
-    ensures value { IfOk result (λ h. held_tree h ≡ set_of (flat_map (λ x. map (λ y. VPair (den_in run.now (fun_tree f.now) x) y) (members (den_in run.now (fun_tree g.now) x))) (map value_tree members.now))) }
-    ensures paid { Paid (sum_by (λ x. 1 + visits_in run.now (fun_tree f.now) x + visits_in run.now (fun_tree g.now) x + length (members (den_in run.now (fun_tree g.now) x))) (map value_tree members.now)) left.old left.new result }
+    ensures value { IfOk result (λ h. held_tree h ≡ set_of (flat_map (λ x. map (λ y. VPair (den_in run.entry (fun_tree f.now) x) y) (members (den_in run.entry (fun_tree g.now) x))) (map value_tree values.now))) }
+    ensures paid { Paid (sum_by (λ x. 1 + visits_in run.entry (fun_tree f.now) x + visits_in run.entry (fun_tree g.now) x + length (members (den_in run.entry (fun_tree g.now) x))) (map value_tree values.now)) left.old left.new result }
 {
     let mut made = Vec::new(run.alloc);
-    for x in members {
-        visit_pairs(run, f, g, x, &mut made, left)?;
+    for x in values {
+        visit_pairs(run, &*f, &*g, x, &mut made, left)?;
     }
     let set = set_of(made)?;
     Ok(Held::Own(set))
@@ -498,9 +498,9 @@ fn unnested<'a>(
 
 // Whether a predicate holds at a value.
 #[cycle(terms)]
-fn pred_at<'a>(run: &Run<'a>, p: &'a Pred, x: Lent<'a>, left: &mut u64) -> Result<bool, Stop>
-    ensures value { IfOk result (λ h. h ≡ holds_in run.now (pred_tree p.now) (lent_tree x.entry)) }
-    ensures paid { Paid (checks_in run.now (pred_tree p.now) (lent_tree x.entry)) left.old left.new result }
+fn pred_at<'a>(run: Run<'a>, p: &'a Pred, x: Lent<'a>, left: &mut u64) -> Result<bool, Stop>
+    ensures value { IfOk result (λ h. h ≡ holds_in run.entry (pred_tree p.now) (lent_tree x.entry)) }
+    ensures paid { Paid (checks_in run.entry (pred_tree p.now) (lent_tree x.entry)) left.old left.new result }
 {
     match p {
         Pred::Eq => Ok(order_in(run, x)?.is_eq()),
@@ -521,7 +521,7 @@ fn pred_at<'a>(run: &Run<'a>, p: &'a Pred, x: Lent<'a>, left: &mut u64) -> Resul
 }
 
 // The order of the parts of a pair.
-fn order_in(run: &Run<'_>, x: Lent<'_>) -> Result<Ordering, Memory>
+fn order_in(run: Run<'_>, x: Lent<'_>) -> Result<Ordering, Memory>
     ensures { IfOk result (λ o. o ≡ cmp (left (lent_tree x.entry)) (right (lent_tree x.entry))) }
 {
     compared(run.alloc, first(x), second(x))
@@ -530,14 +530,14 @@ fn order_in(run: &Run<'_>, x: Lent<'_>) -> Result<Ordering, Memory>
 // Whether both hold; the second is asked only where the first holds.
 #[cycle(terms)]
 fn conjunction<'a>(
-    run: &Run<'a>,
+    run: Run<'a>,
     p: &'a Pred,
     q: &'a Pred,
     x: Lent<'a>,
     left: &mut u64,
 ) -> Result<bool, Stop>
-    ensures value { IfOk result (λ h. h ≡ holds_in run.now (pred_tree p.now) (lent_tree x.entry) && holds_in run.now (pred_tree q.now) (lent_tree x.entry)) }
-    ensures paid { Paid (checks_in run.now (pred_tree p.now) (lent_tree x.entry) + cond (holds_in run.now (pred_tree p.now) (lent_tree x.entry)) (checks_in run.now (pred_tree q.now) (lent_tree x.entry)) 0) left.old left.new result }
+    ensures value { IfOk result (λ h. h ≡ holds_in run.entry (pred_tree p.now) (lent_tree x.entry) && holds_in run.entry (pred_tree q.now) (lent_tree x.entry)) }
+    ensures paid { Paid (checks_in run.entry (pred_tree p.now) (lent_tree x.entry) + cond (holds_in run.entry (pred_tree p.now) (lent_tree x.entry)) (checks_in run.entry (pred_tree q.now) (lent_tree x.entry)) 0) left.old left.new result }
 {
     if pred_at(run, p, x, left)? {
         pred_at(run, q, x, left)
@@ -549,14 +549,14 @@ fn conjunction<'a>(
 // Whether one holds; the second is asked only where the first does not.
 #[cycle(terms)]
 fn disjunction<'a>(
-    run: &Run<'a>,
+    run: Run<'a>,
     p: &'a Pred,
     q: &'a Pred,
     x: Lent<'a>,
     left: &mut u64,
 ) -> Result<bool, Stop>
-    ensures value { IfOk result (λ h. h ≡ holds_in run.now (pred_tree p.now) (lent_tree x.entry) || holds_in run.now (pred_tree q.now) (lent_tree x.entry)) }
-    ensures paid { Paid (checks_in run.now (pred_tree p.now) (lent_tree x.entry) + cond (holds_in run.now (pred_tree p.now) (lent_tree x.entry)) 0 (checks_in run.now (pred_tree q.now) (lent_tree x.entry))) left.old left.new result }
+    ensures value { IfOk result (λ h. h ≡ holds_in run.entry (pred_tree p.now) (lent_tree x.entry) || holds_in run.entry (pred_tree q.now) (lent_tree x.entry)) }
+    ensures paid { Paid (checks_in run.entry (pred_tree p.now) (lent_tree x.entry) + cond (holds_in run.entry (pred_tree p.now) (lent_tree x.entry)) 0 (checks_in run.entry (pred_tree q.now) (lent_tree x.entry))) left.old left.new result }
 {
     if pred_at(run, p, x, left)? {
         Ok(true)
@@ -568,98 +568,98 @@ fn disjunction<'a>(
 // Whether `p` holds at the pair of two values.
 #[cycle(terms)]
 fn pred_beside(
-    run: &Run<'_>,
+    run: Run<'_>,
     p: &Pred,
     v: Lent<'_>,
     w: Lent<'_>,
     left: &mut u64,
 ) -> Result<bool, Stop>
-    ensures value { IfOk result (λ h. h ≡ holds_in run.now (pred_tree p.now) (VPair (lent_tree v.entry) (lent_tree w.entry))) }
-    ensures paid { Paid (checks_in run.now (pred_tree p.now) (VPair (lent_tree v.entry) (lent_tree w.entry))) left.old left.new result }
+    ensures value { IfOk result (λ h. h ≡ holds_in run.entry (pred_tree p.now) (VPair (lent_tree v.entry) (lent_tree w.entry))) }
+    ensures paid { Paid (checks_in run.entry (pred_tree p.now) (VPair (lent_tree v.entry) (lent_tree w.entry))) left.old left.new result }
 {
-    pred_at(run, p, Lent::Pair(&v, &w), left)
+    pred_at(run, &*p, Lent::Pair(&v, &w), left)
 }
 
 // Whether `p` holds at the value of `f`.
 #[cycle(terms)]
 fn pred_behind<'a>(
-    run: &Run<'a>,
+    run: Run<'a>,
     p: &Pred,
     f: &'a Fun,
     x: Lent<'a>,
     left: &mut u64,
 ) -> Result<bool, Stop>
-    ensures value { IfOk result (λ h. h ≡ holds_in run.now (pred_tree p.now) (den_in run.now (fun_tree f.now) (lent_tree x.entry))) }
-    ensures paid { Paid (visits_in run.now (fun_tree f.now) (lent_tree x.entry) + checks_in run.now (pred_tree p.now) (den_in run.now (fun_tree f.now) (lent_tree x.entry))) left.old left.new result }
+    ensures value { IfOk result (λ h. h ≡ holds_in run.entry (pred_tree p.now) (den_in run.entry (fun_tree f.now) (lent_tree x.entry))) }
+    ensures paid { Paid (visits_in run.entry (fun_tree f.now) (lent_tree x.entry) + checks_in run.entry (pred_tree p.now) (den_in run.entry (fun_tree f.now) (lent_tree x.entry))) left.old left.new result }
 {
     match pairing(f, x) {
-        Some(parts) => pred_at_pair(run, p, parts, left),
-        None => pred_at_whole(run, p, f, x, left),
+        Some(parts) => pred_at_pair(run, &*p, parts, left),
+        None => pred_at_whole(run, &*p, f, x, left),
     }
 }
 
 // Whether `p` holds at the pair of two values that are never put together.
 #[cycle(terms)]
 fn pred_at_pair<'a>(
-    run: &Run<'a>,
+    run: Run<'a>,
     p: &Pred,
     parts: Parts<'a>,
     left: &mut u64,
 ) -> Result<bool, Stop>
-    ensures value { IfOk result (λ h. h ≡ holds_in run.now (pred_tree p.now) (VPair (den_in run.now (fun_tree parts.f.now) (lent_tree parts.x)) (den_in run.now (fun_tree parts.g.now) (lent_tree parts.y)))) }
-    ensures paid { Paid ((visits_in run.now (fun_tree parts.f.now) (lent_tree parts.x) + visits_in run.now (fun_tree parts.g.now) (lent_tree parts.y)) + checks_in run.now (pred_tree p.now) (VPair (den_in run.now (fun_tree parts.f.now) (lent_tree parts.x)) (den_in run.now (fun_tree parts.g.now) (lent_tree parts.y)))) left.old left.new result }
+    ensures value { IfOk result (λ h. h ≡ holds_in run.entry (pred_tree p.now) (VPair (den_in run.entry (fun_tree parts.entry.f.now) (lent_tree parts.entry.x)) (den_in run.entry (fun_tree parts.entry.g.now) (lent_tree parts.entry.y)))) }
+    ensures paid { Paid ((visits_in run.entry (fun_tree parts.entry.f.now) (lent_tree parts.entry.x) + visits_in run.entry (fun_tree parts.entry.g.now) (lent_tree parts.entry.y)) + checks_in run.entry (pred_tree p.now) (VPair (den_in run.entry (fun_tree parts.entry.f.now) (lent_tree parts.entry.x)) (den_in run.entry (fun_tree parts.entry.g.now) (lent_tree parts.entry.y)))) left.old left.new result }
 {
     let v = fun_at(run, parts.f, parts.x, left)?;
     let w = fun_at(run, parts.g, parts.y, left)?;
-    pred_beside(run, p, v.as_lent(), w.as_lent(), left)
+    pred_beside(run, &*p, v.as_lent(), w.as_lent(), left)
 }
 
 // Whether `p` holds at the value of `f`, which stands whole.
 #[cycle(terms)]
 fn pred_at_whole<'a>(
-    run: &Run<'a>,
+    run: Run<'a>,
     p: &Pred,
     f: &'a Fun,
     x: Lent<'a>,
     left: &mut u64,
 ) -> Result<bool, Stop>
-    ensures value { IfOk result (λ h. h ≡ holds_in run.now (pred_tree p.now) (den_in run.now (fun_tree f.now) (lent_tree x.entry))) }
-    ensures paid { Paid (visits_in run.now (fun_tree f.now) (lent_tree x.entry) + checks_in run.now (pred_tree p.now) (den_in run.now (fun_tree f.now) (lent_tree x.entry))) left.old left.new result }
+    ensures value { IfOk result (λ h. h ≡ holds_in run.entry (pred_tree p.now) (den_in run.entry (fun_tree f.now) (lent_tree x.entry))) }
+    ensures paid { Paid (visits_in run.entry (fun_tree f.now) (lent_tree x.entry) + checks_in run.entry (pred_tree p.now) (den_in run.entry (fun_tree f.now) (lent_tree x.entry))) left.old left.new result }
 {
     let v = fun_at(run, f, x, left)?;
-    pred_at(run, p, v.as_lent(), left)
+    pred_at(run, &*p, v.as_lent(), left)
 }
 
 // Visits a member: whether `p` holds at the pair of a value and the member.
 #[cycle(terms)]
 fn passes(
-    run: &Run<'_>,
+    run: Run<'_>,
     p: &Pred,
     x: Lent<'_>,
     y: &Value,
     left: &mut u64,
 ) -> Result<bool, Stop>
-    ensures value { IfOk result (λ h. h ≡ holds_in run.now (pred_tree p.now) (VPair (lent_tree x.entry) (value_tree y.now))) }
-    ensures paid { Paid (1 + checks_in run.now (pred_tree p.now) (VPair (lent_tree x.entry) (value_tree y.now))) left.old left.new result }
+    ensures value { IfOk result (λ h. h ≡ holds_in run.entry (pred_tree p.now) (VPair (lent_tree x.entry) (value_tree y.now))) }
+    ensures paid { Paid (1 + checks_in run.entry (pred_tree p.now) (VPair (lent_tree x.entry) (value_tree y.now))) left.old left.new result }
 {
     pay(left, 1)?;
-    pred_beside(run, p, x, Lent::Whole(y), left)
+    pred_beside(run, &*p, x, Lent::Whole(&*y), left)
 }
 
 // Whether `p` holds with some member. It looks at none behind the first.
 #[cycle(terms)]
 fn some_passes(
-    run: &Run<'_>,
+    run: Run<'_>,
     p: &Pred,
     x: Lent<'_>,
     members: &[Value],
     left: &mut u64,
 ) -> Result<bool, Stop>
-    ensures value { IfOk result (λ h. h ≡ any (λ y. holds_in run.now (pred_tree p.now) (VPair (lent_tree x.entry) y)) (map value_tree members.now)) }
-    ensures paid { Paid (until (λ y. holds_in run.now (pred_tree p.now) (VPair (lent_tree x.entry) y)) (λ y. 1 + checks_in run.now (pred_tree p.now) (VPair (lent_tree x.entry) y)) (map value_tree members.now)) left.old left.new result }
+    ensures value { IfOk result (λ h. h ≡ any (λ y. holds_in run.entry (pred_tree p.now) (VPair (lent_tree x.entry) y)) (map value_tree members.now)) }
+    ensures paid { Paid (until (λ y. holds_in run.entry (pred_tree p.now) (VPair (lent_tree x.entry) y)) (λ y. 1 + checks_in run.entry (pred_tree p.now) (VPair (lent_tree x.entry) y)) (map value_tree members.now)) left.old left.new result }
 {
     for y in members {
-        if passes(run, p, x, y, left)? {
+        if passes(run, &*p, x, y, left)? {
             return Ok(true);
         }
     }
@@ -669,17 +669,17 @@ fn some_passes(
 // Whether `p` holds with each member. It looks at none behind the first with which it does not.
 #[cycle(terms)]
 fn each_passes(
-    run: &Run<'_>,
+    run: Run<'_>,
     p: &Pred,
     x: Lent<'_>,
     members: &[Value],
     left: &mut u64,
 ) -> Result<bool, Stop>
-    ensures value { IfOk result (λ h. h ≡ all (λ y. holds_in run.now (pred_tree p.now) (VPair (lent_tree x.entry) y)) (map value_tree members.now)) }
-    ensures paid { Paid (until (λ y. not (holds_in run.now (pred_tree p.now) (VPair (lent_tree x.entry) y))) (λ y. 1 + checks_in run.now (pred_tree p.now) (VPair (lent_tree x.entry) y)) (map value_tree members.now)) left.old left.new result }
+    ensures value { IfOk result (λ h. h ≡ all (λ y. holds_in run.entry (pred_tree p.now) (VPair (lent_tree x.entry) y)) (map value_tree members.now)) }
+    ensures paid { Paid (until (λ y. not (holds_in run.entry (pred_tree p.now) (VPair (lent_tree x.entry) y))) (λ y. 1 + checks_in run.entry (pred_tree p.now) (VPair (lent_tree x.entry) y)) (map value_tree members.now)) left.old left.new result }
 {
     for y in members {
-        if !passes(run, p, x, y, left)? {
+        if !passes(run, &*p, x, y, left)? {
             return Ok(false);
         }
     }

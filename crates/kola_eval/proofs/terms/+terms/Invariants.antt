@@ -128,7 +128,7 @@ abbrev pub invariant-nested-loop-y : goal.invariant-nested-loop-y
 invariant-nested-loop-y l = Built (map (λ y. VPair y (set_of (map (λ x. den_in l.run (fun_tree l.g) x) (filter (λ x. same (den_in l.run (fun_tree l.f) x) y) (map value_tree l.first)))))) (sum_by (λ y. sum_by (λ x. 1 + visits_in l.run (fun_tree l.f) x + cond (same (den_in l.run (fun_tree l.f) x) y) (visits_in l.run (fun_tree l.g) x) 0) (map value_tree l.first))) (map value_tree l.second) (drop l.y-index (map value_tree l.second)) [] (map value_tree l.made.items) l.initial.left l.left
 
 abbrev pub invariant-unnested-loop-x : goal.invariant-unnested-loop-x
-invariant-unnested-loop-x l = Built (flat_map (λ x. map (λ y. VPair (den_in l.run (fun_tree l.f) x) y) (members (den_in l.run (fun_tree l.g) x)))) (sum_by (λ x. 1 + visits_in l.run (fun_tree l.f) x + visits_in l.run (fun_tree l.g) x + length (members (den_in l.run (fun_tree l.g) x)))) (map value_tree l.members) (drop l.x-index (map value_tree l.members)) [] (map value_tree l.made.items) l.initial.left l.left
+invariant-unnested-loop-x l = Built (flat_map (λ x. map (λ y. VPair (den_in l.run (fun_tree l.f) x) y) (members (den_in l.run (fun_tree l.g) x)))) (sum_by (λ x. 1 + visits_in l.run (fun_tree l.f) x + visits_in l.run (fun_tree l.g) x + length (members (den_in l.run (fun_tree l.g) x)))) (map value_tree l.values) (drop l.x-index (map value_tree l.values)) [] (map value_tree l.made.items) l.initial.left l.left
 
 abbrev pub invariant-some_passes-loop-y : goal.invariant-some_passes-loop-y
 invariant-some_passes-loop-y l = Seeking (λ y. holds_in l.run (pred_tree l.p) (VPair (lent_tree l.x) y)) (λ y. 1 + checks_in l.run (pred_tree l.p) (VPair (lent_tree l.x) y)) (map value_tree l.members) (drop l.y-index (map value_tree l.members)) l.initial.left l.left

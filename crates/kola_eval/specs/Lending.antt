@@ -34,8 +34,12 @@ abbrev pub set_members : Option (Bor (List ValueTree)) → List ValueTree
 set_members (Some s) = s.now
 set_members None = []
 
+-- fewer visits were left than wanted, or memory was
+abbrev pub Stopped : ℕ → ℕ → Stop → Type 0
+Stopped cost before Limit = before < cost
+Stopped cost before Memory = Unit {0}
+
 -- so many visits were taken of what was left; or there were fewer
 abbrev pub Paid : {A : Type 0} → ℕ → ℕ → ℕ → Result A Stop → Type 0
 Paid cost before after (Ok a) = before ≡ cost + after
-Paid cost before after (Err Limit) = before < cost
-Paid cost before after (Err Memory) = Unit {0}
+Paid cost before after (Err e) = Stopped cost before e

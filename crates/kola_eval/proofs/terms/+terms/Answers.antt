@@ -117,35 +117,35 @@ fun_at-returns-in-Join-clause-value t c =
     let is : fun_tree c.args.f.now ≡ FJoin (pred_tree c.deref-in-Join.result.now) (fun_tree c.deref-in-Join-2.result.now) = search rules in
     let us = c.members_in-in-Join.ensures ∙ ap members c.first-in-Join.ensures in
     let ws = c.members_in-in-Join-2.ensures ∙ ap members c.second-in-Join.ensures in
-    IfOk-weaker c.crossed.result _ _ (λ h p. p ∙ join_value c.args.run _ _ _ us ws _ _ ∙ ap (λ f. den_in c.args.run f (lent_tree c.args.x)) (sym is)) c.crossed.ensures.value
+    IfOk-weaker c.crossed.result _ _ (λ h p. p ∙ join_value c.args.run (lent_tree c.args.x) _ _ us ws (pred_tree c.deref-in-Join.result.now) (fun_tree c.deref-in-Join-2.result.now) ∙ ap (λ f. den_in c.args.run f (lent_tree c.args.x)) (sym is)) c.crossed.ensures.value
 
 pub fun_at-returns-in-Join-clause-paid : goal.fun_at-returns-in-Join-clause-paid
 fun_at-returns-in-Join-clause-paid t c =
     let is : fun_tree c.args.f.now ≡ FJoin (pred_tree c.deref-in-Join.result.now) (fun_tree c.deref-in-Join-2.result.now) = search rules in
     let us = c.members_in-in-Join.ensures ∙ ap members c.first-in-Join.ensures in
     let ws = c.members_in-in-Join-2.ensures ∙ ap members c.second-in-Join.ensures in
-    subst (λ n. Paid n c.args.left.now c.crossed.new.left c.crossed.result) (join_visits c.args.run _ _ _ us ws _ _ ∙ ap (λ f. visits_in c.args.run f (lent_tree c.args.x)) (sym is)) c.crossed.ensures.paid
+    subst (λ n. Paid n c.args.left.now c.crossed.new.left c.crossed.result) (join_visits c.args.run (lent_tree c.args.x) _ _ us ws (pred_tree c.deref-in-Join.result.now) (fun_tree c.deref-in-Join-2.result.now) ∙ ap (λ f. visits_in c.args.run f (lent_tree c.args.x)) (sym is)) c.crossed.ensures.paid
 
 pub fun_at-returns-in-Nest-clause-value : goal.fun_at-returns-in-Nest-clause-value
 fun_at-returns-in-Nest-clause-value t c =
     let is : fun_tree c.args.f.now ≡ FNest (fun_tree c.deref-in-Nest.result.now) (fun_tree c.deref-in-Nest-2.result.now) = search rules in
     let us = c.members_in-in-Nest.ensures ∙ ap members c.first-in-Nest.ensures in
     let ws = c.members_in-in-Nest-2.ensures ∙ ap members c.second-in-Nest.ensures in
-    IfOk-weaker c.nested.result _ _ (λ h p. p ∙ nest_value c.args.run _ _ _ us ws _ _ ∙ ap (λ f. den_in c.args.run f (lent_tree c.args.x)) (sym is)) c.nested.ensures.value
+    IfOk-weaker c.nested.result _ _ (λ h p. p ∙ nest_value c.args.run (lent_tree c.args.x) _ _ us ws (fun_tree c.deref-in-Nest.result.now) (fun_tree c.deref-in-Nest-2.result.now) ∙ ap (λ f. den_in c.args.run f (lent_tree c.args.x)) (sym is)) c.nested.ensures.value
 
 pub fun_at-returns-in-Nest-clause-paid : goal.fun_at-returns-in-Nest-clause-paid
 fun_at-returns-in-Nest-clause-paid t c =
     let is : fun_tree c.args.f.now ≡ FNest (fun_tree c.deref-in-Nest.result.now) (fun_tree c.deref-in-Nest-2.result.now) = search rules in
     let us = c.members_in-in-Nest.ensures ∙ ap members c.first-in-Nest.ensures in
     let ws = c.members_in-in-Nest-2.ensures ∙ ap members c.second-in-Nest.ensures in
-    subst (λ n. Paid n c.args.left.now c.nested.new.left c.nested.result) (nest_visits c.args.run _ _ _ us ws _ _ ∙ ap (λ f. visits_in c.args.run f (lent_tree c.args.x)) (sym is)) c.nested.ensures.paid
+    subst (λ n. Paid n c.args.left.now c.nested.new.left c.nested.result) (nest_visits c.args.run (lent_tree c.args.x) _ _ us ws (fun_tree c.deref-in-Nest.result.now) (fun_tree c.deref-in-Nest-2.result.now) ∙ ap (λ f. visits_in c.args.run f (lent_tree c.args.x)) (sym is)) c.nested.ensures.paid
 
 pub fun_at-returns-in-Unnest-clause-value : goal.fun_at-returns-in-Unnest-clause-value
 fun_at-returns-in-Unnest-clause-value t c =
     let is : fun_tree c.args.f.now ≡ FUnnest (fun_tree c.deref-in-Unnest.result.now) (fun_tree c.deref-in-Unnest-2.result.now) = search rules in
-    IfOk-weaker c.unnested.result _ _ (λ h p. p ∙ unnest_value c.args.run _ _ c.members_in-in-Unnest.ensures _ _ ∙ ap (λ f. den_in c.args.run f (lent_tree c.args.x)) (sym is)) c.unnested.ensures.value
+    IfOk-weaker c.unnested.result _ _ (λ h p. p ∙ unnest_value c.args.run (lent_tree c.args.x) _ c.members_in-in-Unnest.ensures (fun_tree c.deref-in-Unnest.result.now) (fun_tree c.deref-in-Unnest-2.result.now) ∙ ap (λ f. den_in c.args.run f (lent_tree c.args.x)) (sym is)) c.unnested.ensures.value
 
 pub fun_at-returns-in-Unnest-clause-paid : goal.fun_at-returns-in-Unnest-clause-paid
 fun_at-returns-in-Unnest-clause-paid t c =
     let is : fun_tree c.args.f.now ≡ FUnnest (fun_tree c.deref-in-Unnest.result.now) (fun_tree c.deref-in-Unnest-2.result.now) = search rules in
-    subst (λ n. Paid n c.args.left.now c.unnested.new.left c.unnested.result) (unnest_visits c.args.run _ _ c.members_in-in-Unnest.ensures _ _ ∙ ap (λ f. visits_in c.args.run f (lent_tree c.args.x)) (sym is)) c.unnested.ensures.paid
+    subst (λ n. Paid n c.args.left.now c.unnested.new.left c.unnested.result) (unnest_visits c.args.run (lent_tree c.args.x) _ c.members_in-in-Unnest.ensures (fun_tree c.deref-in-Unnest.result.now) (fun_tree c.deref-in-Unnest-2.result.now) ∙ ap (λ f. visits_in c.args.run f (lent_tree c.args.x)) (sym is)) c.unnested.ensures.paid

@@ -1,9 +1,9 @@
 -- What is lent for a constant and an attribute.
 use Rattle.std.proofs.Common.{◌≡◌, ℕ, Bool, true, false, true≢false, cond, List, [], ◌∷◌, Option, Some, None, option_map, refl, sym, ap, ◌∙◌}
-use Rattle.kola_values.specs.Values.{ValueTree, VUnit, VInt, VBool, VStr, VObj, VPair, VStruct, VSet, VNone, of_items}
+use Rattle.kola_values.specs.Values.{ValueTree, VUnit, VInt, VBool, VStr, VObj, VPair, VStruct, VSet, VNone}
 use Rattle.kola_values.specs.Order.{same}
 use Rattle.kola_values.specs.Sets.{Rising, canon, set_of}
-use Rattle.kola_values.specs.Databases.{Class, Classes, Object, Objects, look_up, value_or_unit, attribute_of, objects_of, extent_class}
+use Rattle.kola_values.specs.Databases.{Classes, Objects, look_up, value_or_unit, attribute_of, objects_of, extent_class}
 use Rattle.kola_values.proofs.Anys.{canon_rising}
 use Rattle.kola_database.specs.Stored.{Database, extents_of, extent_in}
 use Rattle.kola_database.proofs.Stored.{extent_meant}

@@ -1,12 +1,12 @@
 -- What terms over two sets give and visit, where the members of both are at hand.
-use Rattle.std.proofs.Common.{◌≡◌, ℕ, ◌+◌, cond, List, [], ◌∷◌, map, filter, flat_map, length}
+use Rattle.std.proofs.Common.{◌≡◌, ◌+◌, cond, List, map, filter, flat_map, length}
 use Rattle.std.specs.Prelude.{sum_by}
 use Rattle.kola_values.specs.Values.{ValueTree, VPair}
 use Rattle.kola_values.specs.Order.{same}
 use Rattle.kola_values.specs.Sets.{members, set_of}
 use Rattle.kola_term.specs.Terms.{FunTree, PredTree, FJoin, FNest, FUnnest}
 use Rattle.kola_term.specs.Meaning.{left, right}
-use Rattle.kola_eval.specs.Evaluating.{den_in, holds_in, visits_in, checks_in, member_visits}
+use Rattle.kola_eval.specs.Evaluating.{den_in, holds_in, visits_in, member_visits}
 use Rattle.kola_eval.specs.declared.run.Run.{Run}
 
 module _ (r : Run) (v : ValueTree) (us ws : List ValueTree) (a : us ≡ members (left v)) (b : ws ≡ members (right v)) where

@@ -1,5 +1,5 @@
 -- What is taken of the visits that are left, and loops over the members of a set that build a list and take visits.
-use Rattle.std.proofs.Common.{◌≡◌, ℕ, ◌+◌, ◌≤◌, ◌<◌, Bool, true, false, not, cond, ◌&&◌, ◌||◌, List, [], ◌∷◌, ◌++◌, length, drop, map, filter, Result, Ok, Err, refl, sym, ap, ◌∙◌, subst, arith}
+use Rattle.std.proofs.Common.{◌≡◌, ℕ, ◌+◌, ◌≤◌, ◌<◌, Bool, true, false, not, cond, ◌&&◌, ◌||◌, List, [], ◌∷◌, ◌++◌, length, drop, map, filter, Result, Err, refl, sym, ap, ◌∙◌, subst, arith}
 use Rattle.std.specs.Prelude.{sum_by, get_or, IsErrAnd}
 use Rattle.std.proofs.lemmas.List.{append_assoc, append-nil, drop_all, drop_more, drop-map, length-map}
 use Rattle.std.proofs.lemmas.Result.{err_from_is_err_and}

@@ -1,5 +1,5 @@
 -- The value and the visits of a term in the database that an evaluation runs on, and what the parts of a pair that a term gives add up to.
-use Rattle.std.specs.Prelude.{◌≡◌, ℕ, ◌+◌, ◌<◌, Bool, cond}
+use Rattle.std.specs.Prelude.{◌≡◌, ℕ, ◌+◌, Bool, cond}
 use Rattle.kola_values.specs.Values.{ValueTree, VPair}
 use Rattle.kola_values.specs.Databases.{Classes, Objects}
 use Rattle.kola_term.specs.Terms.{ConstTree, FunTree, FComp, FPair, FTimes, FC, FIf, FIterate, FIter, FJoin, FNest, FUnnest, PredTree, PAt, PAnd, POr, PNot, PInv, PCP, PEx, PFa}

@@ -1,9 +1,8 @@
 -- The plain trees of values that are lent or owned, and what an evaluation takes of the visits that are left.
-use Rattle.std.specs.Prelude.{◌≡◌, ℕ, ◌+◌, ◌<◌, Bool, List, [], Option, Some, None, Result, Ok, Err}
+use Rattle.std.specs.Prelude.{◌≡◌, ℕ, ◌+◌, ◌<◌, List, [], Option, Some, None, Result, Ok, Err}
 use Rattle.std.specs.Borrow.{Bor}
 use Rattle.kola_values.specs.Values.{ValueTree, VUnit, VInt, VBool, VStr, VPair, VSet, VNone, of_items}
 use Rattle.kola_values.specs.Views.{value_tree}
-use Rattle.kola_values.specs.declared.value.Set.{Set}
 use Rattle.kola_eval.specs.declared.lent.Lent.{Lent}
 use Rattle.kola_eval.specs.declared.lent.Lent.TheVariants as l
 use Rattle.kola_eval.specs.declared.held.Held.{Held}

@@ -81,12 +81,7 @@ fn beside<'a>(
 
 // The value of `f` at a value that goes.
 #[cycle(terms)]
-fn behind<'a>(
-    run: Run<'a>,
-    f: &Fun,
-    v: BoxedValue,
-    left: &mut u64,
-) -> Result<Held<'a>, Stop>
+fn behind<'a>(run: Run<'a>, f: &Fun, v: BoxedValue, left: &mut u64) -> Result<Held<'a>, Stop>
     ensures value { IfOk result (λ h. held_tree h ≡ den_in run.entry (fun_tree f.now) v) }
     ensures paid { Paid (visits_in run.entry (fun_tree f.now) v) left.old left.new result }
 {
@@ -340,13 +335,7 @@ fn crossed<'a>(
 
 // Whether the value of `f` at a member is the other.
 #[cycle(terms)]
-fn is_at(
-    run: Run<'_>,
-    f: &Fun,
-    x: &Value,
-    y: &Value,
-    left: &mut u64,
-) -> Result<bool, Stop>
+fn is_at(run: Run<'_>, f: &Fun, x: &Value, y: &Value, left: &mut u64) -> Result<bool, Stop>
     ensures value { IfOk result (λ h. h ≡ same (den_in run.entry (fun_tree f.now) (value_tree x.now)) (value_tree y.now)) }
     ensures paid { Paid (visits_in run.entry (fun_tree f.now) (value_tree x.now)) left.old left.new result }
 {
@@ -600,12 +589,7 @@ fn pred_behind<'a>(
 
 // Whether `p` holds at the pair of two values that are never put together.
 #[cycle(terms)]
-fn pred_at_pair<'a>(
-    run: Run<'a>,
-    p: &Pred,
-    parts: Parts<'a>,
-    left: &mut u64,
-) -> Result<bool, Stop>
+fn pred_at_pair<'a>(run: Run<'a>, p: &Pred, parts: Parts<'a>, left: &mut u64) -> Result<bool, Stop>
     ensures value { IfOk result (λ h. h ≡ holds_in run.entry (pred_tree p.now) (VPair (den_in run.entry (fun_tree parts.entry.f.now) (lent_tree parts.entry.x)) (den_in run.entry (fun_tree parts.entry.g.now) (lent_tree parts.entry.y)))) }
     ensures paid { Paid ((visits_in run.entry (fun_tree parts.entry.f.now) (lent_tree parts.entry.x) + visits_in run.entry (fun_tree parts.entry.g.now) (lent_tree parts.entry.y)) + checks_in run.entry (pred_tree p.now) (VPair (den_in run.entry (fun_tree parts.entry.f.now) (lent_tree parts.entry.x)) (den_in run.entry (fun_tree parts.entry.g.now) (lent_tree parts.entry.y)))) left.old left.new result }
 {
@@ -632,13 +616,7 @@ fn pred_at_whole<'a>(
 
 // Visits a member: whether `p` holds at the pair of a value and the member.
 #[cycle(terms)]
-fn passes(
-    run: Run<'_>,
-    p: &Pred,
-    x: Lent<'_>,
-    y: &Value,
-    left: &mut u64,
-) -> Result<bool, Stop>
+fn passes(run: Run<'_>, p: &Pred, x: Lent<'_>, y: &Value, left: &mut u64) -> Result<bool, Stop>
     ensures value { IfOk result (λ h. h ≡ holds_in run.entry (pred_tree p.now) (VPair (lent_tree x.entry) (value_tree y.now))) }
     ensures paid { Paid (1 + checks_in run.entry (pred_tree p.now) (VPair (lent_tree x.entry) (value_tree y.now))) left.old left.new result }
 {

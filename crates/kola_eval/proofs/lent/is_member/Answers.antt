@@ -1,4 +1,4 @@
-use Rattle.std.proofs.Common.{sym, ap}
+use Rattle.std.proofs.Common.{ap}
 use Rattle.kola_values.specs.Sets.{any, has}
 use Rattle.kola_eval.specs.Lending.{lent_tree}
 use Rattle.kola_eval.proofs.lent.is_member.Goals as goal

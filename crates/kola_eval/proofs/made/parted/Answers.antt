@@ -1,4 +1,4 @@
-use Rattle.std.proofs.Common.{◌≡◌, ◌∙◌, ap, filter, subst, not, List}
+use Rattle.std.proofs.Common.{◌∙◌, ap, filter, subst, not, List}
 use Rattle.std.proofs.lemmas.Result.{IfOk-weaker}
 use Rattle.kola_values.specs.Values.{ValueTree}
 use Rattle.kola_values.specs.Sets.{Rising, has, members}
@@ -13,5 +13,5 @@ returns c =
     let b = c.in_ok-b.ensures ∙ ap members c.second.ensures in
     let kept : List ValueTree → List ValueTree → List ValueTree = λ (xs : List ValueTree) (bs : List ValueTree). filter (λ x. not (has x bs)) xs in
     IfOk-weaker c.boxed_set.result _ _
-        (λ s p. p ∙ ap set_tree (c.in_ok-set.ensures ∙ (λ k. kept (a k) (b k))) ∙ set_of_rising _ (rising_filter _ _ (subst Rising a c.well_formed-2.ensures.rises)))
-        c.boxed_set.ensures
+    (λ s p. p ∙ ap set_tree (c.in_ok-set.ensures ∙ (λ k. kept (a k) (b k))) ∙ set_of_rising _ (rising_filter _ _ (subst Rising a c.well_formed-2.ensures.rises)))
+    c.boxed_set.ensures

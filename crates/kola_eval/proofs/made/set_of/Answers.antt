@@ -1,6 +1,5 @@
-use Rattle.std.proofs.Common.{◌≡◌, ◌∙◌, ap, map}
+use Rattle.std.proofs.Common.{◌∙◌, ap, map}
 use Rattle.std.proofs.lemmas.Result.{IfOk-weaker}
-use Rattle.kola_values.specs.Sets.{set_of}
 use Rattle.kola_values.specs.Views.{value_tree}
 use Rattle.kola_eval.specs.Lending.{set_tree}
 use Rattle.kola_eval.proofs.Constants.{set_of_canon}

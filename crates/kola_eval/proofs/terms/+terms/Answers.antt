@@ -1,17 +1,13 @@
-use Rattle.std.proofs.Common.{rules, ◌≡◌, ◌+◌, ◌∷◌, ◌++◌, [], cond, map, filter, flat_map, length, not, refl, sym, ap, ◌∙◌, subst, List, is_eq}
-use Rattle.std.specs.Prelude.{sum_by}
+use Rattle.std.proofs.Common.{rules, ◌≡◌, not, refl, sym, ap, ◌∙◌, subst, is_eq}
 use Rattle.std.proofs.lemmas.Result.{IfOk-weaker}
 use Rattle.std.proofs.lemmas.List.Sums.{sum_by-cons}
-use Rattle.kola_values.specs.Values.{VPair}
 use Rattle.kola_values.specs.Order.{cmp, same}
-use Rattle.kola_values.specs.Sets.{any, all, members, set_of}
+use Rattle.kola_values.specs.Sets.{members}
 use Rattle.kola_values.specs.Views.{value_tree}
-use Rattle.kola_term.specs.Meaning.{left, right}
-use Rattle.kola_term.specs.Visits.{until}
 use Rattle.kola_term.specs.Terms.{FJoin, FNest, FUnnest}
 use Rattle.kola_term.specs.TermView.{fun_tree, pred_tree}
-use Rattle.kola_eval.specs.Lending.{lent_tree, held_tree, Paid}
-use Rattle.kola_eval.specs.Evaluating.{den_in, holds_in, visits_in, checks_in, member_visits}
+use Rattle.kola_eval.specs.Lending.{lent_tree, Paid}
+use Rattle.kola_eval.specs.Evaluating.{den_in, visits_in}
 use Rattle.kola_eval.proofs.Taking.{handed_on, at_next, past, built_more, built_stop, pick_step, each_more, seeking_more, seeking_found, seeking_paid, seeking_stop, seeking_none, all_any}
 use Rattle.kola_eval.proofs.Pairs.{join_value, join_visits, nest_value, nest_visits, unnest_value, unnest_visits}
 use Rattle.kola_eval.proofs.terms.+terms.Goals as goal
@@ -19,7 +15,7 @@ use Rattle.kola_eval.proofs.terms.+terms.Goals as goal
 pub iterated-returns-in_err-visit-clause-paid : goal.iterated-returns-in_err-visit-clause-paid
 iterated-returns-in_err-visit-clause-paid t c =
     handed_on _ _ _ c.from_residual.result _ c.from_residual.ensures.1
-        (built_stop _ _ _ (sum_by-cons _) _ _ _ _ _ _ _ _ (at_next value_tree c.args.members.now c.loop-x.x-index c.x-item.result c.loop-x-test.true c.x-item.is) c.loop-x.invariant c.in_err-visit.ensures.paid)
+    (built_stop _ _ _ (sum_by-cons _) _ _ _ _ _ _ _ _ (at_next value_tree c.args.members.now c.loop-x.x-index c.x-item.result c.loop-x-test.true c.x-item.is) c.loop-x.invariant c.in_err-visit.ensures.paid)
 
 pub iterated-loop-x-preserved : goal.iterated-loop-x-preserved
 iterated-loop-x-preserved t c =
@@ -28,7 +24,7 @@ iterated-loop-x-preserved t c =
 pub visit_each-returns-in_err-visit_beside-clause-paid : goal.visit_each-returns-in_err-visit_beside-clause-paid
 visit_each-returns-in_err-visit_beside-clause-paid t c =
     handed_on _ _ _ c.from_residual.result _ c.from_residual.ensures.1
-        (built_stop _ _ _ (sum_by-cons _) _ _ _ _ _ _ _ _ (at_next value_tree c.args.members.now c.loop-y.y-index c.y-item.result c.loop-y-test.true c.y-item.is) c.loop-y.invariant c.in_err-visit_beside.ensures.paid)
+    (built_stop _ _ _ (sum_by-cons _) _ _ _ _ _ _ _ _ (at_next value_tree c.args.members.now c.loop-y.y-index c.y-item.result c.loop-y-test.true c.y-item.is) c.loop-y.invariant c.in_err-visit_beside.ensures.paid)
 
 pub visit_each-loop-y-preserved : goal.visit_each-loop-y-preserved
 visit_each-loop-y-preserved t c =
@@ -37,7 +33,7 @@ visit_each-loop-y-preserved t c =
 pub crossed-returns-in_err-visit_each-clause-paid : goal.crossed-returns-in_err-visit_each-clause-paid
 crossed-returns-in_err-visit_each-clause-paid t c =
     handed_on _ _ _ c.from_residual.result _ c.from_residual.ensures.1
-        (built_stop _ _ _ (sum_by-cons _) _ _ _ _ _ _ _ _ (at_next value_tree c.args.first.now c.loop-x.x-index c.x-item.result c.loop-x-test.true c.x-item.is) c.loop-x.invariant c.in_err-visit_each.ensures.paid)
+    (built_stop _ _ _ (sum_by-cons _) _ _ _ _ _ _ _ _ (at_next value_tree c.args.first.now c.loop-x.x-index c.x-item.result c.loop-x-test.true c.x-item.is) c.loop-x.invariant c.in_err-visit_each.ensures.paid)
 
 pub crossed-loop-x-preserved : goal.crossed-loop-x-preserved
 crossed-loop-x-preserved t c =
@@ -46,7 +42,7 @@ crossed-loop-x-preserved t c =
 pub matches_of-returns-in_err-visit_match-clause-paid : goal.matches_of-returns-in_err-visit_match-clause-paid
 matches_of-returns-in_err-visit_match-clause-paid t c =
     handed_on _ _ _ c.from_residual.result _ c.from_residual.ensures.1
-        (built_stop _ _ _ (sum_by-cons _) _ _ _ _ _ _ _ _ (at_next value_tree c.args.members.now c.loop-x.x-index c.x-item.result c.loop-x-test.true c.x-item.is) c.loop-x.invariant c.in_err-visit_match.ensures.paid)
+    (built_stop _ _ _ (sum_by-cons _) _ _ _ _ _ _ _ _ (at_next value_tree c.args.members.now c.loop-x.x-index c.x-item.result c.loop-x-test.true c.x-item.is) c.loop-x.invariant c.in_err-visit_match.ensures.paid)
 
 pub matches_of-loop-x-preserved : goal.matches_of-loop-x-preserved
 matches_of-loop-x-preserved t c =
@@ -55,7 +51,7 @@ matches_of-loop-x-preserved t c =
 pub nested-returns-in_err-add_matches-clause-paid : goal.nested-returns-in_err-add_matches-clause-paid
 nested-returns-in_err-add_matches-clause-paid t c =
     handed_on _ _ _ c.from_residual.result _ c.from_residual.ensures.1
-        (built_stop _ _ _ (sum_by-cons _) _ _ _ _ _ _ _ _ (at_next value_tree c.args.second.now c.loop-y.y-index c.y-item.result c.loop-y-test.true c.y-item.is) c.loop-y.invariant c.in_err-add_matches.ensures.paid)
+    (built_stop _ _ _ (sum_by-cons _) _ _ _ _ _ _ _ _ (at_next value_tree c.args.second.now c.loop-y.y-index c.y-item.result c.loop-y-test.true c.y-item.is) c.loop-y.invariant c.in_err-add_matches.ensures.paid)
 
 pub nested-loop-y-preserved : goal.nested-loop-y-preserved
 nested-loop-y-preserved t c =
@@ -64,7 +60,7 @@ nested-loop-y-preserved t c =
 pub unnested-returns-in_err-visit_pairs-clause-paid : goal.unnested-returns-in_err-visit_pairs-clause-paid
 unnested-returns-in_err-visit_pairs-clause-paid t c =
     handed_on _ _ _ c.from_residual.result _ c.from_residual.ensures.1
-        (built_stop _ _ _ (sum_by-cons _) _ _ _ _ _ _ _ _ (at_next value_tree c.args.values.now c.loop-x.x-index c.x-item.result c.loop-x-test.true c.x-item.is) c.loop-x.invariant c.in_err-visit_pairs.ensures.paid)
+    (built_stop _ _ _ (sum_by-cons _) _ _ _ _ _ _ _ _ (at_next value_tree c.args.values.now c.loop-x.x-index c.x-item.result c.loop-x-test.true c.x-item.is) c.loop-x.invariant c.in_err-visit_pairs.ensures.paid)
 
 pub unnested-loop-x-preserved : goal.unnested-loop-x-preserved
 unnested-loop-x-preserved t c =
@@ -73,12 +69,12 @@ unnested-loop-x-preserved t c =
 pub some_passes-returns-in_err-passes-clause-paid : goal.some_passes-returns-in_err-passes-clause-paid
 some_passes-returns-in_err-passes-clause-paid t c =
     handed_on _ _ _ c.from_residual.result _ c.from_residual.ensures.1
-        (seeking_stop _ _ _ _ _ _ 0 _ (at_next value_tree c.args.members.now c.loop-y.y-index c.y-item.result c.loop-y-test.true c.y-item.is) c.loop-y.invariant _ c.in_err-passes.ensures.paid)
+    (seeking_stop _ _ _ _ _ _ 0 _ (at_next value_tree c.args.members.now c.loop-y.y-index c.y-item.result c.loop-y-test.true c.y-item.is) c.loop-y.invariant _ c.in_err-passes.ensures.paid)
 
 pub each_passes-returns-in_err-passes-clause-paid : goal.each_passes-returns-in_err-passes-clause-paid
 each_passes-returns-in_err-passes-clause-paid t c =
     handed_on _ _ _ c.from_residual.result _ c.from_residual.ensures.1
-        (seeking_stop _ _ _ _ _ _ 0 _ (at_next value_tree c.args.members.now c.loop-y.y-index c.y-item.result c.loop-y-test.true c.y-item.is) c.loop-y.invariant _ c.in_err-passes.ensures.paid)
+    (seeking_stop _ _ _ _ _ _ 0 _ (at_next value_tree c.args.members.now c.loop-y.y-index c.y-item.result c.loop-y-test.true c.y-item.is) c.loop-y.invariant _ c.in_err-passes.ensures.paid)
 
 pub some_passes-returns-then-branch-clause-value : goal.some_passes-returns-then-branch-clause-value
 some_passes-returns-then-branch-clause-value t c = sym (seeking_found _ _ _ _ _ _ 0 _ (at_next value_tree c.args.members.now c.loop-y.y-index c.y-item.result c.loop-y-test.true c.y-item.is) c.loop-y.invariant (sym c.in_ok-passes.ensures.value ∙ c.if-branch.true))

@@ -1,4 +1,4 @@
-use Rattle.std.proofs.Common.{ℕ, ◌+◌, ◌*◌, not, cond, List, [], ◌∷◌, drop, map, filter, flat_map, length}
+use Rattle.std.proofs.Common.{◌+◌, ◌*◌, not, cond, [], drop, map, filter, flat_map, length}
 use Rattle.std.specs.Prelude.{sum_by}
 use Rattle.kola_values.specs.Values.{VPair}
 use Rattle.kola_values.specs.Order.{same}

@@ -1,1 +1,4 @@
 mod Reordered
+mod Constants
+mod Taking
+mod Pairs

@@ -1,1 +1,3 @@
 pub mod Evaluations
+pub mod Lending
+pub mod Evaluating

@@ -1,17 +1,22 @@
 //! The value and the visits of a term.
-ghost use Rattle.std.specs.Prelude.{◌≡◌, IfOk};
+ghost use Rattle.std.specs.Prelude.{◌≡◌, IfOk, IfErr};
 ghost use Rattle.kola_values.specs.Views.{value_tree};
 ghost use Rattle.kola_database.specs.Stored.{IsUnder};
 ghost use Rattle.kola_term.specs.Meaning.{den};
 ghost use Rattle.kola_term.specs.Visits.{visits};
 ghost use Rattle.kola_term.specs.TermView.{fun_tree};
 ghost use Rattle.kola_eval.specs.Evaluations.{IsWithin};
+ghost use Rattle.kola_eval.specs.declared.fault.EvalFault.TheVariants as fault;
 
+use crate::budget::Stop;
 use crate::fault::EvalFault;
+use crate::lent::Lent;
+use crate::run::Run;
+use crate::terms::boxed_at;
 use kola_database::Db;
 use kola_schema::Schema;
 use kola_term::Fun;
-use kola_values::Value;
+use kola_values::{BoxedValue, Value};
 use std::alloc::Global;
 
 /// The value of a term, and how many members it visited.
@@ -21,6 +26,18 @@ pub struct Evaluated {
     pub value: Value,
     /// The number of members that were visited.
     pub visits: u64,
+}
+
+// A value with its visits.
+fn finished(value: BoxedValue, visits: u64) -> Result<Evaluated, EvalFault>
+    ensures value { IfOk result (λ e. value_tree e.value ≡ value) }
+    ensures visits { IfOk result (λ e. e.visits ≡ visits) }
+    ensures fault { IfErr result (λ f. f ≡ fault.Memory) }
+{
+    match value.get().copy() {
+        Ok(value) => Ok(Evaluated { value, visits }),
+        Err(_) => Err(EvalFault::Memory),
+    }
 }
 
 /// The value of a function at a value, with the members that are visited, of which there may be `limit`. `VisitLimit` comes
@@ -41,5 +58,11 @@ pub fn eval(
         (λ e. e.visits ≡ visits schema.now db.now.objects (fun_tree f.now) (value_tree v.now)) }
     ensures limit { IsWithin limit (visits schema.now db.now.objects (fun_tree f.now) (value_tree v.now)) result }
 {
-    Err(EvalFault::Memory)
+    let run = Run::over(alloc, schema, db);
+    let mut left = limit;
+    match boxed_at(run, f, Lent::Whole(v), &mut left) {
+        Ok(value) => finished(value, limit - left),
+        Err(Stop::Limit) => Err(EvalFault::VisitLimit { limit }),
+        Err(Stop::Memory) => Err(EvalFault::Memory),
+    }
 }

@@ -1,9 +1,17 @@
 //! The evaluator of terms: a term's value at a value in a database, with the members that it visits counted.
 #![tactic(auto)]
 
+mod budget;
 mod evaluation;
 mod fault;
+mod held;
 mod laws;
+mod lending;
+mod lent;
+mod made;
+mod parts;
+mod run;
+mod terms;
 
 pub use evaluation::{Evaluated, eval};
 pub use fault::EvalFault;

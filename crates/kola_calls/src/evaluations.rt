@@ -1,12 +1,11 @@
 //! The values of terms and the members that they visit, in the sample's database.
 
-use crate::samples::{Broken, boxed, schema, term};
+use crate::samples::{Broken, schema, term};
 use kola_canon::value_text;
-use kola_database::Db;
 use kola_eval::{EvalFault, Evaluated, eval};
 use kola_load::read_db;
 use kola_schema::Schema;
-use kola_term::Term;
+use kola_term::{Fun, Term};
 use kola_values::{Ty, Value};
 use std::alloc::Global;
 use std::test::Fail;
@@ -16,25 +15,29 @@ const DATABASE: &str =
             {\"#\":1,\"ssn\":\"a\",\"first\":\"Ann\",\"last\":\"Lee\",\"cars\":[1]}],
  \"Vehicles\":[{\"#\":1,\"year\":1990},{\"#\":2,\"year\":2001}]}";
 
-/// The sample's database; none stands for want of memory or a refused text.
-fn database(alloc: Global, schema: &Schema) -> Result<Box<Db>, Broken> {
+/// The value of a function at the unit in the sample's database, within a limit of visits.
+fn evaluated(
+    alloc: Global,
+    schema: &Schema,
+    f: &Fun,
+    limit: u64,
+) -> Result<Result<Evaluated, EvalFault>, Broken> {
     match read_db(alloc, schema, DATABASE.as_bytes()) {
-        Ok(db) => Ok(boxed(alloc, db)?),
+        Ok(db) => Ok(eval(alloc, schema, &db, f, &Value::Unit, limit)),
         Err(_fault) => Err(Broken::Refused),
     }
 }
 
-/// A term at the unit within a limit of visits.
-fn evaluated(
+/// The value of a term at the unit.
+fn value_of(
     alloc: Global,
-    schema: &Schema,
-    db: &Db,
     text: &str,
     limit: u64,
 ) -> Result<Result<Evaluated, EvalFault>, Broken> {
+    let schema = schema(alloc)?;
     let term = term(alloc, text)?;
     match &*term {
-        Term::F(f) => Ok(eval(alloc, schema, db, f, &Value::Unit, limit)),
+        Term::F(f) => evaluated(alloc, &schema, f, limit),
         _ => Err(Broken::Refused),
     }
 }
@@ -47,9 +50,7 @@ fn is_written(alloc: Global, value: &Value, text: &str) -> Result<bool, Broken> 
 
 /// Whether a term has this value, and visits so many members.
 fn has_value(alloc: Global, text: &str, value: &str, visits: u64) -> Result<bool, Broken> {
-    let schema = schema(alloc)?;
-    let db = database(alloc, &schema)?;
-    match evaluated(alloc, &schema, &db, text, visits)? {
+    match value_of(alloc, text, visits)? {
         Ok(found) => Ok(found.visits == visits && is_written(alloc, &found.value, value)?),
         Err(_fault) => Ok(false),
     }
@@ -119,9 +120,7 @@ fn terms_have_values_and_visits(rt: HostRuntime) -> Result<(), Fail> {
 
 /// Whether a term is refused within this limit, with the limit.
 fn is_limited(alloc: Global, text: &str, limit: u64) -> Result<bool, Broken> {
-    let schema = schema(alloc)?;
-    let db = database(alloc, &schema)?;
-    match evaluated(alloc, &schema, &db, text, limit)? {
+    match value_of(alloc, text, limit)? {
         Err(EvalFault::VisitLimit { limit: told }) => Ok(told == limit),
         _ => Ok(false),
     }

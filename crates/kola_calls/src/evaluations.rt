@@ -29,11 +29,7 @@ fn evaluated(
 }
 
 /// The value of a term at the unit.
-fn value_of(
-    alloc: Global,
-    text: &str,
-    limit: u64,
-) -> Result<Result<Evaluated, EvalFault>, Broken> {
+fn value_of(alloc: Global, text: &str, limit: u64) -> Result<Result<Evaluated, EvalFault>, Broken> {
     let schema = schema(alloc)?;
     let term = term(alloc, text)?;
     match &*term {

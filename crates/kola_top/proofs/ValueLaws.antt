@@ -1,5 +1,5 @@
 -- From the value of a query's term to the value of the query. The objects of the database may be written in any order.
-use Rattle.std.proofs.Common.{◌≡◌, ℕ, List, [], true, refl, sym, ap, ◌∙◌, subst, IsPermutation}
+use Rattle.std.proofs.Common.{◌≡◌, ℕ, List, [], true, sym, ap, ◌∙◌, subst, IsPermutation}
 use Rattle.std.proofs.lemmas.List.Sorted.{IsPermutation-sym}
 use Rattle.kola_values.specs.Values.{ValueTree, VUnit}
 use Rattle.kola_values.specs.Types.{TypeTree}

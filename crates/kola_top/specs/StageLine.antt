@@ -1,5 +1,5 @@
 -- The answer to a job as a line of stages. Private clauses cite it: what is promised stands in Answer.antt, a case for each.
-use Rattle.std.specs.Prelude.{◌≡◌, ℕ, ◌+◌, ◌<◌, ◌≤◌, List, [], length, Some, None, Ok}
+use Rattle.std.specs.Prelude.{◌≡◌, ℕ, ◌+◌, ◌<◌, ◌≤◌, List, [], length, Some, None}
 use Rattle.kola_base.specs.declared.text_fault.TextWhy.{TextWhy}
 use Rattle.kola_top.specs.declared.section.Span.{Span}
 use Rattle.kola_top.specs.declared.section.Sections.{Sections}

@@ -21,7 +21,8 @@ pub fn a_job_has_exactly_one_answer()
 /// Each answer to the words and a job has the cause that its status names, and no earlier one: `Usage` words that are no command, `TooLong`
 /// a job that is longer than it may be, `Layout` a faulty line or a section that the action needs and that is not there, `Schema` and
 /// `Database` a text that is refused, `Rules` a text that writes no rules, or a rule that is refused, `Query` a text that spells no
-/// query, or a query that is none of the form; and `Ok` a job of which all is accepted that the action asks for.
+/// query or one that has no type, `TermTooLarge` a query whose term is too large, `Visits` a term that visits more members than
+/// may be visited; and `Ok` a job of which all is accepted that the action asks for.
 pub fn answers_have_causes()
     ensures { AnswersHaveCauses }
 {}

@@ -33,8 +33,8 @@ fn write_answer<K: Sink>(sink: &mut K, status: Status, bytes: &[u8]) -> Status
 /// Does all that the program does: it reads the job that the words ask for, answers it, and says how it ended.
 ///
 /// The refusals come in the order words, reading, length, layout, a missing section, the schema's text, the text of the rules, the rules
-/// with their proofs; behind them, where the action asks a query, the query's text, a query that is not built, the database's text;
-/// writing comes last. The whole answer is built before the first byte is written. Each answer has its cause: see
+/// with their proofs; behind them, where the action asks a query, the query's text and the size of its term, the database's text, the
+/// visits; writing comes last. The whole answer is built before the first byte is written. Each answer has its cause: see
 /// `answers_have_causes`.
 pub fn run_kola<S: Source, K: Sink>(
     alloc: Global,

@@ -1,7 +1,7 @@
-use Rattle.std.proofs.Common.{◌≡◌, sym, ap, ◌∙◌, subst}
+use Rattle.std.proofs.Common.{sym, ap, ◌∙◌, subst, IsPermutation}
 use Rattle.kola_values.specs.Types.{TypeTree}
 use Rattle.oql_tree.specs.QueryTrees.{QueryTree}
-use Rattle.kola_text.specs.Spelling.{term_spelling, fun_spelling}
+use Rattle.kola_text.specs.Spelling.{term_spelling}
 use Rattle.kola_translate.specs.Translation.{translation}
 use Rattle.kola_top.specs.declared.status.Status.TheVariants as statuses
 use Rattle.kola_top.specs.Report.{report_text}
@@ -49,7 +49,7 @@ returns-in_err-valued c =
     (λ e i. subst (Refuses way) (sym i)
     (refuses_too (FromDatabase database S q) way (asked_on S text c.in_ok-asked.asked rest c.in_ok-asked.ensures.found) r
     (goes (at_database S database) (FromObjects S q) l.objects (l.value, l.reads, l.writes) r
-    (stops (at_visits S l.objects (translation S q)) (λ _. Reported (report_text (report_of_run S l.objects q))) r (c.in_err-valued.ensures l.objects l.exactly)))))
+    (stops (at_visits S l.objects (translation S q)) (λ _. Reported (report_text (report_of_run S l.objects q))) r (c.in_err-valued.ensures l.objects (subst (λ d. IsPermutation l.objects d.objects) (sym c.deref.ensures) l.exactly))))))
 
 pub returns : goal.returns
 returns c =
@@ -59,7 +59,9 @@ returns c =
     let q = c.in_ok-asked.asked.typed.value.0 in
     let found = c.in_ok-asked.ensures.found in
     let l = c.in_ok-db.ensures.loaded in
-    let v = c.in_ok-valued.ensures l.objects l.exactly in
+    let v = c.in_ok-valued.ensures l.objects (subst (λ d. IsPermutation l.objects d.objects) (sym c.deref.ensures) l.exactly) in
+    let query = c.deref-2.ensures.value ∙ c.in_ok-query.ensures ∙ ap term_spelling found.ready.term in
+    let outcome = c.deref-3.ensures.value ∙ v.text in
     asked_on S text c.in_ok-asked.asked (λ x _. FromDatabase database S x) found _ _
     (onward l.objects _ _ (l.value, l.reads, l.writes) (onward tt _ _ v.within
-    (subst (Reported (report_text (report_of_run S l.objects q)) statuses.Ok) (sym c.in_ok-bytes.ensures) reported)))
+    (subst (Reported (report_text (report_of_run S l.objects q)) statuses.Ok) (sym (c.in_ok-bytes.ensures ∙ (λ k. report_text (unchanged_report (query k) (v.visited k) (outcome k))))) reported)))

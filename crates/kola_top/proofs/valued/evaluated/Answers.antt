@@ -1,10 +1,9 @@
 use Rattle.std.proofs.Common.{◌≡◌, ◌≤◌, refl, sym, ap, ◌∙◌, subst}
 use Rattle.std.proofs.lemmas.List.Sorted.{IsPermutation-refl}
-use Rattle.kola_values.specs.Values.{ValueTree, VUnit}
+use Rattle.kola_values.specs.Values.{VUnit}
 use Rattle.kola_values.specs.Shapes.{Shaped}
 use Rattle.kola_values.specs.Views.{value_tree}
 use Rattle.kola_canon.specs.Encoding.{enc_type}
-use Rattle.kola_canon.specs.Spelling.{value_spelling}
 use Rattle.kola_term.specs.Terms.{FunTree, TermF}
 use Rattle.kola_term.specs.TermView.{fun_tree, term_tree}
 use Rattle.kola_term.specs.Meaning.{den}

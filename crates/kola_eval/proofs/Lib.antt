@@ -2,3 +2,4 @@ mod Reordered
 mod Constants
 mod Taking
 mod Pairs
+mod EvaluationExamples

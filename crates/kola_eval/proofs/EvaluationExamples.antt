@@ -1,7 +1,6 @@
 -- Small answers on the limit of visits.
-use Rattle.std.proofs.Common.{ℕ, Result, Ok, Err, refl, arith}
+use Rattle.std.proofs.Common.{ℕ, Ok, Err, refl, arith}
 use Rattle.kola_eval.specs.Evaluations.{IsWithin}
-use Rattle.kola_eval.specs.declared.fault.EvalFault.{EvalFault}
 use Rattle.kola_eval.specs.declared.fault.EvalFault.TheVariants.{VisitLimit, Memory}
 
 -- as many visits as there may be are not too many

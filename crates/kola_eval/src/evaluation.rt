@@ -34,10 +34,8 @@ fn finished(value: BoxedValue, visits: u64) -> Result<Evaluated, EvalFault>
     ensures visits { IfOk result (λ e. e.visits ≡ visits) }
     ensures fault { IfErr result (λ f. f ≡ fault.Memory) }
 {
-    match value.get().copy() {
-        Ok(value) => Ok(Evaluated { value, visits }),
-        Err(_) => Err(EvalFault::Memory),
-    }
+    let value = value.get().copy()?;
+    Ok(Evaluated { value, visits })
 }
 
 /// The value of a function at a value, with the members that are visited, of which there may be `limit`. `VisitLimit` comes

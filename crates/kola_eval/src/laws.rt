@@ -15,6 +15,7 @@ pub fn the_order_of_objects_does_not_matter()
         holds_at S d p v ≡ holds_at S e p v }
     ensures visits { (S : Classes) (d e : Objects) → IsPermutation d e → Meets S e → (f : FunTree) (v : ValueTree) →
         visits S d f v ≡ visits S e f v }
-    ensures pred_visits { (S : Classes) (d e : Objects) → IsPermutation d e → Meets S e → (p : PredTree) (v : ValueTree) →
+    ensures pred_visits { (S : Classes) (d e : Objects) → IsPermutation d e → Meets S e → (p : PredTree)
+        (v : ValueTree) →
         pred_visits S d p v ≡ pred_visits S e p v }
 {}

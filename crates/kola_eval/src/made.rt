@@ -42,7 +42,8 @@ pub(crate) fn united(alloc: Global, pair: Lent<'_>) -> Result<BoxedValue, Memory
 // The intersection of a pair of sets.
 pub(crate) fn shared(alloc: Global, pair: Lent<'_>) -> Result<BoxedValue, Memory>
     ensures { IfOk result
-        (λ b. b ≡ set_of (filter (λ x. has x (members (right (lent_tree pair.entry)))) (members (left (lent_tree pair.entry))))) }
+        (λ b. b ≡ set_of (filter (λ x. has x (members (right (lent_tree pair.entry))))
+        (members (left (lent_tree pair.entry))))) }
 {
     let a = set_of_its_own(alloc, first(pair))?;
     let b = set_of_its_own(alloc, second(pair))?;
@@ -54,7 +55,8 @@ pub(crate) fn shared(alloc: Global, pair: Lent<'_>) -> Result<BoxedValue, Memory
 // The difference of a pair of sets.
 pub(crate) fn parted(alloc: Global, pair: Lent<'_>) -> Result<BoxedValue, Memory>
     ensures { IfOk result
-        (λ b. b ≡ set_of (filter (λ x. not (has x (members (right (lent_tree pair.entry))))) (members (left (lent_tree pair.entry))))) }
+        (λ b. b ≡ set_of (filter (λ x. not (has x (members (right (lent_tree pair.entry)))))
+        (members (left (lent_tree pair.entry))))) }
 {
     let a = set_of_its_own(alloc, first(pair))?;
     let b = set_of_its_own(alloc, second(pair))?;
@@ -65,7 +67,8 @@ pub(crate) fn parted(alloc: Global, pair: Lent<'_>) -> Result<BoxedValue, Memory
 
 // Adds copies of the values.
 fn push_copies(made: &mut Vec<Value>, values: &[Value]) -> Result<(), Memory>
-    ensures { OnOk result (map value_tree made.new.items ≡ map value_tree made.old.items ++ map value_tree values.now) }
+    ensures { OnOk result (map value_tree made.new.items ≡ map value_tree made.old.items ++ map value_tree
+        values.now) }
 {
     for value in values {
         made.push(value.copy()?)?;
@@ -86,7 +89,8 @@ pub(crate) fn joined(alloc: Global, sets: &[Value]) -> Result<BoxedValue, Memory
 
 // Adds a value.
 pub(crate) fn push_held(alloc: Global, made: &mut Vec<Value>, value: Held<'_>) -> Result<(), Memory>
-    ensures { OnOk result (map value_tree made.new.items ≡ map value_tree made.old.items ++ held_tree value.entry ∷ []) }
+    ensures { OnOk result (map value_tree made.new.items ≡ map value_tree made.old.items ++ held_tree
+        value.entry ∷ []) }
 {
     let value = value.into_value(alloc)?;
     made.push(value)?;

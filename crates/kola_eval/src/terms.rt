@@ -1,14 +1,18 @@
 //! The value and the visits of a term at a value that is lent.
-ghost use Rattle.std.specs.Prelude.{◌≡◌, ◌+◌, ◌∷◌, ◌++◌, [], cond, map, filter, flat_map, sum_by, length, not, ◌&&◌, ◌||◌, IfOk, OnOk};
+ghost use Rattle.std.specs.Prelude.{◌≡◌, ◌+◌, ◌∷◌, ◌++◌, [], map, flat_map, sum_by, length, not, IfOk, OnOk};
 ghost use Rattle.kola_values.specs.Values.{VPair};
 ghost use Rattle.kola_values.specs.Order.{cmp, same};
 ghost use Rattle.kola_values.specs.Sets.{any, all, members, set_of};
 ghost use Rattle.kola_values.specs.Views.{value_tree};
 ghost use Rattle.kola_term.specs.Meaning.{left, right};
-ghost use Rattle.kola_term.specs.Visits.{until};
+ghost use Rattle.kola_term.specs.Terms.{FComp, FIf, PAt, PAnd, POr};
 ghost use Rattle.kola_term.specs.TermView.{fun_tree, pred_tree};
 ghost use Rattle.kola_eval.specs.Lending.{lent_tree, held_tree, Paid};
-ghost use Rattle.kola_eval.specs.Evaluating.{den_in, holds_in, visits_in, checks_in, member_visits};
+ghost use Rattle.kola_eval.specs.Evaluating.{den_in, holds_in, visits_in, checks_in, member_visits, pair_tree};
+ghost use Rattle.kola_eval.specs.Evaluating.{parts_value, parts_visits, one_picked, picked, picked_visits};
+ghost use Rattle.kola_eval.specs.Evaluating.{paired, paired_visits, crossed, crossed_visits, match_visits};
+ghost use Rattle.kola_eval.specs.Evaluating.{one_matched, matched, matched_visits, with_matches, unnested};
+ghost use Rattle.kola_eval.specs.Evaluating.{unnested_visits, until_visits};
 
 use crate::budget::{Stop, pay};
 use crate::held::Held;
@@ -71,8 +75,10 @@ fn beside<'a>(
     w: Lent<'_>,
     left: &mut u64,
 ) -> Result<Held<'a>, Stop>
-    ensures value { IfOk result (λ h. held_tree h ≡ den_in run.entry (fun_tree f.now) (VPair (lent_tree v.entry) (lent_tree w.entry))) }
-    ensures paid { Paid (visits_in run.entry (fun_tree f.now) (VPair (lent_tree v.entry) (lent_tree w.entry))) left.old left.new result }
+    ensures value { IfOk result (λ h. held_tree h ≡ den_in run.entry (fun_tree f.now)
+        (pair_tree v.entry w.entry)) }
+    ensures paid { Paid (visits_in run.entry (fun_tree f.now) (pair_tree v.entry w.entry)) left.old left.new
+        result }
 {
     let value = fun_at(run, &*f, Lent::Pair(&v, &w), left)?;
     let value = value.into_boxed(run.alloc)?;
@@ -99,8 +105,10 @@ fn composed<'a>(
     x: Lent<'a>,
     left: &mut u64,
 ) -> Result<Held<'a>, Stop>
-    ensures value { IfOk result (λ h. held_tree h ≡ den_in run.entry (fun_tree f.now) (den_in run.entry (fun_tree g.now) (lent_tree x.entry))) }
-    ensures paid { Paid (visits_in run.entry (fun_tree g.now) (lent_tree x.entry) + visits_in run.entry (fun_tree f.now) (den_in run.entry (fun_tree g.now) (lent_tree x.entry))) left.old left.new result }
+    ensures value { IfOk result
+        (λ h. held_tree h ≡ den_in run.entry (FComp (fun_tree f.now) (fun_tree g.now)) (lent_tree x.entry)) }
+    ensures paid { Paid (visits_in run.entry (FComp (fun_tree f.now) (fun_tree g.now)) (lent_tree x.entry))
+        left.old left.new result }
 {
     match pairing(g, x) {
         Some(parts) => composed_pair(run, f, parts, left),
@@ -116,8 +124,11 @@ fn composed_pair<'a>(
     parts: Parts<'a>,
     left: &mut u64,
 ) -> Result<Held<'a>, Stop>
-    ensures value { IfOk result (λ h. held_tree h ≡ den_in run.entry (fun_tree f.now) (VPair (den_in run.entry (fun_tree parts.entry.f.now) (lent_tree parts.entry.x)) (den_in run.entry (fun_tree parts.entry.g.now) (lent_tree parts.entry.y)))) }
-    ensures paid { Paid ((visits_in run.entry (fun_tree parts.entry.f.now) (lent_tree parts.entry.x) + visits_in run.entry (fun_tree parts.entry.g.now) (lent_tree parts.entry.y)) + visits_in run.entry (fun_tree f.now) (VPair (den_in run.entry (fun_tree parts.entry.f.now) (lent_tree parts.entry.x)) (den_in run.entry (fun_tree parts.entry.g.now) (lent_tree parts.entry.y)))) left.old left.new result }
+    ensures value { IfOk result
+        (λ h. held_tree h ≡ den_in run.entry (fun_tree f.now) (parts_value run.entry parts.entry)) }
+    ensures paid { Paid (parts_visits run.entry parts.entry + visits_in run.entry (fun_tree f.now)
+        (parts_value run.entry parts.entry))
+        left.old left.new result }
 {
     let v = fun_at(run, parts.f, parts.x, left)?;
     let w = fun_at(run, parts.g, parts.y, left)?;
@@ -133,8 +144,10 @@ fn composed_whole<'a>(
     x: Lent<'a>,
     left: &mut u64,
 ) -> Result<Held<'a>, Stop>
-    ensures value { IfOk result (λ h. held_tree h ≡ den_in run.entry (fun_tree f.now) (den_in run.entry (fun_tree g.now) (lent_tree x.entry))) }
-    ensures paid { Paid (visits_in run.entry (fun_tree g.now) (lent_tree x.entry) + visits_in run.entry (fun_tree f.now) (den_in run.entry (fun_tree g.now) (lent_tree x.entry))) left.old left.new result }
+    ensures value { IfOk result
+        (λ h. held_tree h ≡ den_in run.entry (FComp (fun_tree f.now) (fun_tree g.now)) (lent_tree x.entry)) }
+    ensures paid { Paid (visits_in run.entry (FComp (fun_tree f.now) (fun_tree g.now)) (lent_tree x.entry))
+        left.old left.new result }
 {
     match fun_at(run, g, x, left)? {
         Held::Lent(v) => fun_at(run, f, v, left),
@@ -168,8 +181,12 @@ fn both<'a>(
     y: Lent<'_>,
     left: &mut u64,
 ) -> Result<Held<'a>, Stop>
-    ensures value { IfOk result (λ h. held_tree h ≡ VPair (den_in run.entry (fun_tree f.now) (lent_tree x.entry)) (den_in run.entry (fun_tree g.now) (lent_tree y.entry))) }
-    ensures paid { Paid (visits_in run.entry (fun_tree f.now) (lent_tree x.entry) + visits_in run.entry (fun_tree g.now) (lent_tree y.entry)) left.old left.new result }
+    ensures value { IfOk result
+        (λ h. held_tree h ≡ VPair (den_in run.entry (fun_tree f.now) (lent_tree x.entry))
+        (den_in run.entry (fun_tree g.now) (lent_tree y.entry))) }
+    ensures paid { Paid (visits_in run.entry (fun_tree f.now) (lent_tree x.entry) + visits_in run.entry
+        (fun_tree g.now) (lent_tree y.entry))
+        left.old left.new result }
 {
     let v = boxed_at(run, &*f, x, left)?;
     let w = boxed_at(run, &*g, y, left)?;
@@ -187,8 +204,12 @@ fn chosen<'a>(
     x: Lent<'a>,
     left: &mut u64,
 ) -> Result<Held<'a>, Stop>
-    ensures value { IfOk result (λ h. held_tree h ≡ cond (holds_in run.entry (pred_tree p.now) (lent_tree x.entry)) (den_in run.entry (fun_tree f.now) (lent_tree x.entry)) (den_in run.entry (fun_tree g.now) (lent_tree x.entry))) }
-    ensures paid { Paid (checks_in run.entry (pred_tree p.now) (lent_tree x.entry) + cond (holds_in run.entry (pred_tree p.now) (lent_tree x.entry)) (visits_in run.entry (fun_tree f.now) (lent_tree x.entry)) (visits_in run.entry (fun_tree g.now) (lent_tree x.entry))) left.old left.new result }
+    ensures value { IfOk result
+        (λ h. held_tree h ≡ den_in run.entry (FIf (pred_tree p.now) (fun_tree f.now) (fun_tree g.now))
+        (lent_tree x.entry)) }
+    ensures paid { Paid (visits_in run.entry (FIf (pred_tree p.now) (fun_tree f.now) (fun_tree g.now))
+        (lent_tree x.entry))
+        left.old left.new result }
 {
     if pred_at(run, &*p, x, left)? {
         fun_at(run, f, x, left)
@@ -206,7 +227,8 @@ fn add(
     made: &mut Vec<Value>,
     left: &mut u64,
 ) -> Result<(), Stop>
-    ensures made { OnOk result (map value_tree made.new.items ≡ map value_tree made.old.items ++ den_in run.entry (fun_tree f.now) (lent_tree x.entry) ∷ []) }
+    ensures made { OnOk result (map value_tree made.new.items
+        ≡ map value_tree made.old.items ++ den_in run.entry (fun_tree f.now) (lent_tree x.entry) ∷ []) }
     ensures paid { Paid (visits_in run.entry (fun_tree f.now) (lent_tree x.entry)) left.old left.new result }
 {
     let value = fun_at(run, &*f, x, left)?;
@@ -224,8 +246,11 @@ fn visit(
     made: &mut Vec<Value>,
     left: &mut u64,
 ) -> Result<(), Stop>
-    ensures made { OnOk result (map value_tree made.new.items ≡ map value_tree made.old.items ++ cond (holds_in run.entry (pred_tree p.now) (lent_tree x.entry)) (den_in run.entry (fun_tree f.now) (lent_tree x.entry) ∷ []) []) }
-    ensures paid { Paid (member_visits run.entry (pred_tree p.now) (fun_tree f.now) (lent_tree x.entry)) left.old left.new result }
+    ensures made { OnOk result (map value_tree made.new.items
+        ≡ map value_tree made.old.items ++ one_picked run.entry (pred_tree p.now) (fun_tree f.now)
+        (lent_tree x.entry)) }
+    ensures paid { Paid (member_visits run.entry (pred_tree p.now) (fun_tree f.now) (lent_tree x.entry))
+        left.old left.new result }
 {
     pay(left, 1)?;
     if pred_at(run, &*p, x, left)? {
@@ -246,8 +271,12 @@ fn visit_beside(
     made: &mut Vec<Value>,
     left: &mut u64,
 ) -> Result<(), Stop>
-    ensures made { OnOk result (map value_tree made.new.items ≡ map value_tree made.old.items ++ cond (holds_in run.entry (pred_tree p.now) (VPair (lent_tree x.entry) (value_tree y.now))) (den_in run.entry (fun_tree f.now) (VPair (lent_tree x.entry) (value_tree y.now)) ∷ []) []) }
-    ensures paid { Paid (member_visits run.entry (pred_tree p.now) (fun_tree f.now) (VPair (lent_tree x.entry) (value_tree y.now))) left.old left.new result }
+    ensures made { OnOk result (map value_tree made.new.items
+        ≡ map value_tree made.old.items ++ one_picked run.entry (pred_tree p.now) (fun_tree f.now)
+        (VPair (lent_tree x.entry) (value_tree y.now))) }
+    ensures paid { Paid (member_visits run.entry (pred_tree p.now) (fun_tree f.now)
+        (VPair (lent_tree x.entry) (value_tree y.now)))
+        left.old left.new result }
 {
     let y = Lent::Whole(&*y);
     visit(run, &*p, &*f, Lent::Pair(&x, &y), made, left)
@@ -262,8 +291,12 @@ fn iterated<'a>(
     members: &[Value],
     left: &mut u64,
 ) -> Result<Held<'a>, Stop>
-    ensures value { IfOk result (λ h. held_tree h ≡ set_of (map (λ x. den_in run.entry (fun_tree f.now) x) (filter (λ x. holds_in run.entry (pred_tree p.now) x) (map value_tree members.now)))) }
-    ensures paid { Paid (sum_by (λ x. member_visits run.entry (pred_tree p.now) (fun_tree f.now) x) (map value_tree members.now)) left.old left.new result }
+    ensures value { IfOk result
+        (λ h. held_tree h ≡ set_of (picked run.entry (pred_tree p.now) (fun_tree f.now)
+        (map value_tree members.now))) }
+    ensures paid { Paid (picked_visits run.entry (pred_tree p.now) (fun_tree f.now)
+        (map value_tree members.now))
+        left.old left.new result }
 {
     let mut made = Vec::new(run.alloc);
     for x in members {
@@ -284,8 +317,12 @@ fn visit_each(
     made: &mut Vec<Value>,
     left: &mut u64,
 ) -> Result<(), Stop>
-    ensures made { OnOk result (map value_tree made.new.items ≡ map value_tree made.old.items ++ map (λ y. den_in run.entry (fun_tree f.now) (VPair (lent_tree x.entry) y)) (filter (λ y. holds_in run.entry (pred_tree p.now) (VPair (lent_tree x.entry) y)) (map value_tree members.now))) }
-    ensures paid { Paid (sum_by (λ y. member_visits run.entry (pred_tree p.now) (fun_tree f.now) (VPair (lent_tree x.entry) y)) (map value_tree members.now)) left.old left.new result }
+    ensures made { OnOk result (map value_tree made.new.items
+        ≡ map value_tree made.old.items ++ paired run.entry (pred_tree p.now) (fun_tree f.now)
+        (lent_tree x.entry) (map value_tree members.now)) }
+    ensures paid { Paid (paired_visits run.entry (pred_tree p.now) (fun_tree f.now) (lent_tree x.entry)
+        (map value_tree members.now))
+        left.old left.new result }
 {
     for y in members {
         visit_beside(run, &*p, &*f, x, y, made, left)?;
@@ -303,8 +340,12 @@ fn paired_with<'a>(
     members: &[Value],
     left: &mut u64,
 ) -> Result<Held<'a>, Stop>
-    ensures value { IfOk result (λ h. held_tree h ≡ set_of (map (λ y. den_in run.entry (fun_tree f.now) (VPair (lent_tree x.entry) y)) (filter (λ y. holds_in run.entry (pred_tree p.now) (VPair (lent_tree x.entry) y)) (map value_tree members.now)))) }
-    ensures paid { Paid (sum_by (λ y. member_visits run.entry (pred_tree p.now) (fun_tree f.now) (VPair (lent_tree x.entry) y)) (map value_tree members.now)) left.old left.new result }
+    ensures value { IfOk result
+        (λ h. held_tree h ≡ set_of (paired run.entry (pred_tree p.now) (fun_tree f.now) (lent_tree x.entry)
+        (map value_tree members.now))) }
+    ensures paid { Paid (paired_visits run.entry (pred_tree p.now) (fun_tree f.now) (lent_tree x.entry)
+        (map value_tree members.now))
+        left.old left.new result }
 {
     let mut made = Vec::new(run.alloc);
     visit_each(run, &*p, &*f, x, &*members, &mut made, left)?;
@@ -322,8 +363,12 @@ fn crossed<'a>(
     second: &[Value],
     left: &mut u64,
 ) -> Result<Held<'a>, Stop>
-    ensures value { IfOk result (λ h. held_tree h ≡ set_of (flat_map (λ x. map (λ y. den_in run.entry (fun_tree f.now) (VPair x y)) (filter (λ y. holds_in run.entry (pred_tree p.now) (VPair x y)) (map value_tree second.now))) (map value_tree first.now))) }
-    ensures paid { Paid (sum_by (λ x. sum_by (λ y. member_visits run.entry (pred_tree p.now) (fun_tree f.now) (VPair x y)) (map value_tree second.now)) (map value_tree first.now)) left.old left.new result }
+    ensures value { IfOk result
+        (λ h. held_tree h ≡ set_of (crossed run.entry (pred_tree p.now) (fun_tree f.now)
+        (map value_tree first.now) (map value_tree second.now))) }
+    ensures paid { Paid (crossed_visits run.entry (pred_tree p.now) (fun_tree f.now)
+        (map value_tree first.now) (map value_tree second.now))
+        left.old left.new result }
 {
     let mut made = Vec::new(run.alloc);
     for x in first {
@@ -336,7 +381,8 @@ fn crossed<'a>(
 // Whether the value of `f` at a member is the other.
 #[cycle(terms)]
 fn is_at(run: Run<'_>, f: &Fun, x: &Value, y: &Value, left: &mut u64) -> Result<bool, Stop>
-    ensures value { IfOk result (λ h. h ≡ same (den_in run.entry (fun_tree f.now) (value_tree x.now)) (value_tree y.now)) }
+    ensures value { IfOk result
+        (λ h. h ≡ same (den_in run.entry (fun_tree f.now) (value_tree x.now)) (value_tree y.now)) }
     ensures paid { Paid (visits_in run.entry (fun_tree f.now) (value_tree x.now)) left.old left.new result }
 {
     let value = fun_at(run, &*f, Lent::Whole(&*x), left)?;
@@ -355,8 +401,12 @@ fn visit_match(
     made: &mut Vec<Value>,
     left: &mut u64,
 ) -> Result<(), Stop>
-    ensures made { OnOk result (map value_tree made.new.items ≡ map value_tree made.old.items ++ cond (same (den_in run.entry (fun_tree f.now) (value_tree x.now)) (value_tree y.now)) (den_in run.entry (fun_tree g.now) (value_tree x.now) ∷ []) []) }
-    ensures paid { Paid (1 + visits_in run.entry (fun_tree f.now) (value_tree x.now) + cond (same (den_in run.entry (fun_tree f.now) (value_tree x.now)) (value_tree y.now)) (visits_in run.entry (fun_tree g.now) (value_tree x.now)) 0) left.old left.new result }
+    ensures made { OnOk result (map value_tree made.new.items
+        ≡ map value_tree made.old.items ++ one_matched run.entry (fun_tree f.now) (fun_tree g.now)
+        (value_tree y.now) (value_tree x.now)) }
+    ensures paid { Paid (match_visits run.entry (fun_tree f.now) (fun_tree g.now) (value_tree y.now)
+        (value_tree x.now))
+        left.old left.new result }
 {
     pay(left, 1)?;
     if is_at(run, &*f, &*x, &*y, left)? {
@@ -376,8 +426,12 @@ fn matches_of(
     members: &[Value],
     left: &mut u64,
 ) -> Result<BoxedValue, Stop>
-    ensures value { IfOk result (λ h. h ≡ set_of (map (λ x. den_in run.entry (fun_tree g.now) x) (filter (λ x. same (den_in run.entry (fun_tree f.now) x) (value_tree y.now)) (map value_tree members.now)))) }
-    ensures paid { Paid (sum_by (λ x. 1 + visits_in run.entry (fun_tree f.now) x + cond (same (den_in run.entry (fun_tree f.now) x) (value_tree y.now)) (visits_in run.entry (fun_tree g.now) x) 0) (map value_tree members.now)) left.old left.new result }
+    ensures value { IfOk result
+        (λ h. h ≡ set_of (matched run.entry (fun_tree f.now) (fun_tree g.now) (value_tree y.now)
+        (map value_tree members.now))) }
+    ensures paid { Paid (matched_visits run.entry (fun_tree f.now) (fun_tree g.now) (value_tree y.now)
+        (map value_tree members.now))
+        left.old left.new result }
 {
     let mut made = Vec::new(run.alloc);
     for x in members {
@@ -398,8 +452,12 @@ fn add_matches(
     made: &mut Vec<Value>,
     left: &mut u64,
 ) -> Result<(), Stop>
-    ensures made { OnOk result (map value_tree made.new.items ≡ map value_tree made.old.items ++ VPair (value_tree y.now) (set_of (map (λ x. den_in run.entry (fun_tree g.now) x) (filter (λ x. same (den_in run.entry (fun_tree f.now) x) (value_tree y.now)) (map value_tree members.now)))) ∷ []) }
-    ensures paid { Paid (sum_by (λ x. 1 + visits_in run.entry (fun_tree f.now) x + cond (same (den_in run.entry (fun_tree f.now) x) (value_tree y.now)) (visits_in run.entry (fun_tree g.now) x) 0) (map value_tree members.now)) left.old left.new result }
+    ensures made { OnOk result (map value_tree made.new.items
+        ≡ map value_tree made.old.items ++ with_matches run.entry (fun_tree f.now) (fun_tree g.now)
+        (map value_tree members.now) (value_tree y.now) ∷ []) }
+    ensures paid { Paid (matched_visits run.entry (fun_tree f.now) (fun_tree g.now) (value_tree y.now)
+        (map value_tree members.now))
+        left.old left.new result }
 {
     let set = matches_of(run, &*f, &*g, &*y, &*members, left)?;
     push_before(run.alloc, made, &*y, set)?;
@@ -416,8 +474,12 @@ fn nested<'a>(
     second: &[Value],
     left: &mut u64,
 ) -> Result<Held<'a>, Stop>
-    ensures value { IfOk result (λ h. held_tree h ≡ set_of (map (λ y. VPair y (set_of (map (λ x. den_in run.entry (fun_tree g.now) x) (filter (λ x. same (den_in run.entry (fun_tree f.now) x) y) (map value_tree first.now))))) (map value_tree second.now))) }
-    ensures paid { Paid (sum_by (λ y. sum_by (λ x. 1 + visits_in run.entry (fun_tree f.now) x + cond (same (den_in run.entry (fun_tree f.now) x) y) (visits_in run.entry (fun_tree g.now) x) 0) (map value_tree first.now)) (map value_tree second.now)) left.old left.new result }
+    ensures value { IfOk result
+        (λ h. held_tree h ≡ set_of (map (λ y. with_matches run.entry (fun_tree f.now) (fun_tree g.now)
+        (map value_tree first.now) y) (map value_tree second.now))) }
+    ensures paid { Paid (sum_by (λ y. matched_visits run.entry (fun_tree f.now) (fun_tree g.now) y
+        (map value_tree first.now)) (map value_tree second.now))
+        left.old left.new result }
 {
     let mut made = Vec::new(run.alloc);
     for y in second {
@@ -437,8 +499,12 @@ fn add_pairs(
     made: &mut Vec<Value>,
     left: &mut u64,
 ) -> Result<(), Stop>
-    ensures made { OnOk result (map value_tree made.new.items ≡ map value_tree made.old.items ++ map (λ y. VPair a.now y) (members (den_in run.entry (fun_tree g.now) (value_tree x.now)))) }
-    ensures paid { Paid (visits_in run.entry (fun_tree g.now) (value_tree x.now) + length (members (den_in run.entry (fun_tree g.now) (value_tree x.now)))) left.old left.new result }
+    ensures made { OnOk result (map value_tree made.new.items
+        ≡ map value_tree made.old.items ++ map (λ y. VPair a.now y)
+        (members (den_in run.entry (fun_tree g.now) (value_tree x.now)))) }
+    ensures paid { Paid (visits_in run.entry (fun_tree g.now) (value_tree x.now) + length
+        (members (den_in run.entry (fun_tree g.now) (value_tree x.now))))
+        left.old left.new result }
 {
     let set = fun_at(run, &*g, Lent::Whole(&*x), left)?;
     let values = members_in(set.as_lent());
@@ -457,8 +523,11 @@ fn visit_pairs(
     made: &mut Vec<Value>,
     left: &mut u64,
 ) -> Result<(), Stop>
-    ensures made { OnOk result (map value_tree made.new.items ≡ map value_tree made.old.items ++ map (λ y. VPair (den_in run.entry (fun_tree f.now) (value_tree x.now)) y) (members (den_in run.entry (fun_tree g.now) (value_tree x.now)))) }
-    ensures paid { Paid (1 + visits_in run.entry (fun_tree f.now) (value_tree x.now) + visits_in run.entry (fun_tree g.now) (value_tree x.now) + length (members (den_in run.entry (fun_tree g.now) (value_tree x.now)))) left.old left.new result }
+    ensures made { OnOk result (map value_tree made.new.items
+        ≡ map value_tree made.old.items ++ unnested run.entry (fun_tree f.now) (fun_tree g.now)
+        (value_tree x.now)) }
+    ensures paid { Paid (unnested_visits run.entry (fun_tree f.now) (fun_tree g.now) (value_tree x.now))
+        left.old left.new result }
 {
     pay(left, 1)?;
     let a = boxed_at(run, &*f, Lent::Whole(&*x), left)?;
@@ -474,8 +543,12 @@ fn unnested<'a>(
     values: &[Value],
     left: &mut u64,
 ) -> Result<Held<'a>, Stop>
-    ensures value { IfOk result (λ h. held_tree h ≡ set_of (flat_map (λ x. map (λ y. VPair (den_in run.entry (fun_tree f.now) x) y) (members (den_in run.entry (fun_tree g.now) x))) (map value_tree values.now))) }
-    ensures paid { Paid (sum_by (λ x. 1 + visits_in run.entry (fun_tree f.now) x + visits_in run.entry (fun_tree g.now) x + length (members (den_in run.entry (fun_tree g.now) x))) (map value_tree values.now)) left.old left.new result }
+    ensures value { IfOk result
+        (λ h. held_tree h ≡ set_of (flat_map (λ x. unnested run.entry (fun_tree f.now) (fun_tree g.now) x)
+        (map value_tree values.now))) }
+    ensures paid { Paid (sum_by (λ x. unnested_visits run.entry (fun_tree f.now) (fun_tree g.now) x)
+        (map value_tree values.now))
+        left.old left.new result }
 {
     let mut made = Vec::new(run.alloc);
     for x in values {
@@ -525,8 +598,10 @@ fn conjunction<'a>(
     x: Lent<'a>,
     left: &mut u64,
 ) -> Result<bool, Stop>
-    ensures value { IfOk result (λ h. h ≡ holds_in run.entry (pred_tree p.now) (lent_tree x.entry) && holds_in run.entry (pred_tree q.now) (lent_tree x.entry)) }
-    ensures paid { Paid (checks_in run.entry (pred_tree p.now) (lent_tree x.entry) + cond (holds_in run.entry (pred_tree p.now) (lent_tree x.entry)) (checks_in run.entry (pred_tree q.now) (lent_tree x.entry)) 0) left.old left.new result }
+    ensures value { IfOk result
+        (λ h. h ≡ holds_in run.entry (PAnd (pred_tree p.now) (pred_tree q.now)) (lent_tree x.entry)) }
+    ensures paid { Paid (checks_in run.entry (PAnd (pred_tree p.now) (pred_tree q.now)) (lent_tree x.entry))
+        left.old left.new result }
 {
     if pred_at(run, p, x, left)? {
         pred_at(run, q, x, left)
@@ -544,8 +619,10 @@ fn disjunction<'a>(
     x: Lent<'a>,
     left: &mut u64,
 ) -> Result<bool, Stop>
-    ensures value { IfOk result (λ h. h ≡ holds_in run.entry (pred_tree p.now) (lent_tree x.entry) || holds_in run.entry (pred_tree q.now) (lent_tree x.entry)) }
-    ensures paid { Paid (checks_in run.entry (pred_tree p.now) (lent_tree x.entry) + cond (holds_in run.entry (pred_tree p.now) (lent_tree x.entry)) 0 (checks_in run.entry (pred_tree q.now) (lent_tree x.entry))) left.old left.new result }
+    ensures value { IfOk result
+        (λ h. h ≡ holds_in run.entry (POr (pred_tree p.now) (pred_tree q.now)) (lent_tree x.entry)) }
+    ensures paid { Paid (checks_in run.entry (POr (pred_tree p.now) (pred_tree q.now)) (lent_tree x.entry))
+        left.old left.new result }
 {
     if pred_at(run, p, x, left)? {
         Ok(true)
@@ -563,8 +640,9 @@ fn pred_beside(
     w: Lent<'_>,
     left: &mut u64,
 ) -> Result<bool, Stop>
-    ensures value { IfOk result (λ h. h ≡ holds_in run.entry (pred_tree p.now) (VPair (lent_tree v.entry) (lent_tree w.entry))) }
-    ensures paid { Paid (checks_in run.entry (pred_tree p.now) (VPair (lent_tree v.entry) (lent_tree w.entry))) left.old left.new result }
+    ensures value { IfOk result (λ h. h ≡ holds_in run.entry (pred_tree p.now) (pair_tree v.entry w.entry)) }
+    ensures paid { Paid (checks_in run.entry (pred_tree p.now) (pair_tree v.entry w.entry)) left.old
+        left.new result }
 {
     pred_at(run, &*p, Lent::Pair(&v, &w), left)
 }
@@ -578,8 +656,10 @@ fn pred_behind<'a>(
     x: Lent<'a>,
     left: &mut u64,
 ) -> Result<bool, Stop>
-    ensures value { IfOk result (λ h. h ≡ holds_in run.entry (pred_tree p.now) (den_in run.entry (fun_tree f.now) (lent_tree x.entry))) }
-    ensures paid { Paid (visits_in run.entry (fun_tree f.now) (lent_tree x.entry) + checks_in run.entry (pred_tree p.now) (den_in run.entry (fun_tree f.now) (lent_tree x.entry))) left.old left.new result }
+    ensures value { IfOk result
+        (λ h. h ≡ holds_in run.entry (PAt (pred_tree p.now) (fun_tree f.now)) (lent_tree x.entry)) }
+    ensures paid { Paid (checks_in run.entry (PAt (pred_tree p.now) (fun_tree f.now)) (lent_tree x.entry))
+        left.old left.new result }
 {
     match pairing(f, x) {
         Some(parts) => pred_at_pair(run, &*p, parts, left),
@@ -590,8 +670,11 @@ fn pred_behind<'a>(
 // Whether `p` holds at the pair of two values that are never put together.
 #[cycle(terms)]
 fn pred_at_pair<'a>(run: Run<'a>, p: &Pred, parts: Parts<'a>, left: &mut u64) -> Result<bool, Stop>
-    ensures value { IfOk result (λ h. h ≡ holds_in run.entry (pred_tree p.now) (VPair (den_in run.entry (fun_tree parts.entry.f.now) (lent_tree parts.entry.x)) (den_in run.entry (fun_tree parts.entry.g.now) (lent_tree parts.entry.y)))) }
-    ensures paid { Paid ((visits_in run.entry (fun_tree parts.entry.f.now) (lent_tree parts.entry.x) + visits_in run.entry (fun_tree parts.entry.g.now) (lent_tree parts.entry.y)) + checks_in run.entry (pred_tree p.now) (VPair (den_in run.entry (fun_tree parts.entry.f.now) (lent_tree parts.entry.x)) (den_in run.entry (fun_tree parts.entry.g.now) (lent_tree parts.entry.y)))) left.old left.new result }
+    ensures value { IfOk result (λ h. h ≡ holds_in run.entry (pred_tree p.now)
+        (parts_value run.entry parts.entry)) }
+    ensures paid { Paid (parts_visits run.entry parts.entry + checks_in run.entry (pred_tree p.now)
+        (parts_value run.entry parts.entry))
+        left.old left.new result }
 {
     let v = fun_at(run, parts.f, parts.x, left)?;
     let w = fun_at(run, parts.g, parts.y, left)?;
@@ -607,8 +690,10 @@ fn pred_at_whole<'a>(
     x: Lent<'a>,
     left: &mut u64,
 ) -> Result<bool, Stop>
-    ensures value { IfOk result (λ h. h ≡ holds_in run.entry (pred_tree p.now) (den_in run.entry (fun_tree f.now) (lent_tree x.entry))) }
-    ensures paid { Paid (visits_in run.entry (fun_tree f.now) (lent_tree x.entry) + checks_in run.entry (pred_tree p.now) (den_in run.entry (fun_tree f.now) (lent_tree x.entry))) left.old left.new result }
+    ensures value { IfOk result
+        (λ h. h ≡ holds_in run.entry (PAt (pred_tree p.now) (fun_tree f.now)) (lent_tree x.entry)) }
+    ensures paid { Paid (checks_in run.entry (PAt (pred_tree p.now) (fun_tree f.now)) (lent_tree x.entry))
+        left.old left.new result }
 {
     let v = fun_at(run, f, x, left)?;
     pred_at(run, &*p, v.as_lent(), left)
@@ -617,8 +702,11 @@ fn pred_at_whole<'a>(
 // Visits a member: whether `p` holds at the pair of a value and the member.
 #[cycle(terms)]
 fn passes(run: Run<'_>, p: &Pred, x: Lent<'_>, y: &Value, left: &mut u64) -> Result<bool, Stop>
-    ensures value { IfOk result (λ h. h ≡ holds_in run.entry (pred_tree p.now) (VPair (lent_tree x.entry) (value_tree y.now))) }
-    ensures paid { Paid (1 + checks_in run.entry (pred_tree p.now) (VPair (lent_tree x.entry) (value_tree y.now))) left.old left.new result }
+    ensures value { IfOk result
+        (λ h. h ≡ holds_in run.entry (pred_tree p.now) (VPair (lent_tree x.entry) (value_tree y.now))) }
+    ensures paid { Paid (1 + checks_in run.entry (pred_tree p.now)
+        (VPair (lent_tree x.entry) (value_tree y.now)))
+        left.old left.new result }
 {
     pay(left, 1)?;
     pred_beside(run, &*p, x, Lent::Whole(&*y), left)
@@ -633,8 +721,12 @@ fn some_passes(
     members: &[Value],
     left: &mut u64,
 ) -> Result<bool, Stop>
-    ensures value { IfOk result (λ h. h ≡ any (λ y. holds_in run.entry (pred_tree p.now) (VPair (lent_tree x.entry) y)) (map value_tree members.now)) }
-    ensures paid { Paid (until (λ y. holds_in run.entry (pred_tree p.now) (VPair (lent_tree x.entry) y)) (λ y. 1 + checks_in run.entry (pred_tree p.now) (VPair (lent_tree x.entry) y)) (map value_tree members.now)) left.old left.new result }
+    ensures value { IfOk result
+        (λ h. h ≡ any (λ y. holds_in run.entry (pred_tree p.now) (VPair (lent_tree x.entry) y))
+        (map value_tree members.now)) }
+    ensures paid { Paid (until_visits run.entry (λ b. b) (pred_tree p.now) (lent_tree x.entry)
+        (map value_tree members.now))
+        left.old left.new result }
 {
     for y in members {
         if passes(run, &*p, x, y, left)? {
@@ -653,8 +745,12 @@ fn each_passes(
     members: &[Value],
     left: &mut u64,
 ) -> Result<bool, Stop>
-    ensures value { IfOk result (λ h. h ≡ all (λ y. holds_in run.entry (pred_tree p.now) (VPair (lent_tree x.entry) y)) (map value_tree members.now)) }
-    ensures paid { Paid (until (λ y. not (holds_in run.entry (pred_tree p.now) (VPair (lent_tree x.entry) y))) (λ y. 1 + checks_in run.entry (pred_tree p.now) (VPair (lent_tree x.entry) y)) (map value_tree members.now)) left.old left.new result }
+    ensures value { IfOk result
+        (λ h. h ≡ all (λ y. holds_in run.entry (pred_tree p.now) (VPair (lent_tree x.entry) y))
+        (map value_tree members.now)) }
+    ensures paid { Paid (until_visits run.entry not (pred_tree p.now) (lent_tree x.entry)
+        (map value_tree members.now))
+        left.old left.new result }
 {
     for y in members {
         if !passes(run, &*p, x, y, left)? {

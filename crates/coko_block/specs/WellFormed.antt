@@ -4,7 +4,7 @@ use Rattle.kola_values.specs.Sets.{Each}
 use Rattle.kola_schema.specs.Schemas.{are_distinct}
 use Rattle.kola_term.specs.Terms.{FMeta, PMeta, TermTree, TermF, TermP}
 use Rattle.kola_term.specs.Places.{sub_at}
-use Rattle.coko_block.specs.Statements.{StmtTree, SFire, SSkip, SFail, SSeq, SThen, SElse, SBu, STd, SRepeat, SGiven, StmtTrees, NoStmts, MoreStmts, ArmTrees, NoArms, MoreArms, BlockTree}
+use Rattle.coko_block.specs.Statements.{StmtTree, SSeq, SThen, SElse, SBu, STd, SRepeat, SGiven, StmtTrees, NoStmts, MoreStmts, ArmTrees, NoArms, MoreArms, BlockTree}
 
 abbrev pub block_names : List BlockTree → List (List ℕ)
 block_names bs = map (λ (b : BlockTree). b.name) bs

@@ -1,2 +1,4 @@
 mod EntryLaws
 mod Standing
+mod Firing
+mod Fitting

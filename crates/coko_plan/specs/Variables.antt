@@ -21,7 +21,7 @@ abbrev mutual
   fun_variables (FTimes f g) = fun_variables f ++ fun_variables g
   fun_variables (FK c) = const_variables c
   fun_variables (FC f c) = fun_variables f ++ const_variables c
-  fun_variables (FIf p f g) = pred_variables p ++ fun_variables f ++ fun_variables g
+  fun_variables (FIf p f g) = pred_variables p ++ (fun_variables f ++ fun_variables g)
   fun_variables (FIterate p f) = pred_variables p ++ fun_variables f
   fun_variables (FIter p f) = pred_variables p ++ fun_variables f
   fun_variables (FJoin p f) = pred_variables p ++ fun_variables f
@@ -55,7 +55,7 @@ same_variable (TermC (CMeta m)) (TermC (CMeta n)) = bytes_eq m n
 same_variable _ _ = false
 
 abbrev pub is_among : List TermTree → TermTree → Bool
-is_among vs v = list_any (same_variable v) vs
+is_among vs v = list_any (λ w. same_variable w v) vs
 
 -- each variable of the side that is put in stands in the side that is matched
 abbrev pub can_fire : RuleTree → Bool → Bool

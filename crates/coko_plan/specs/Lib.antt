@@ -8,3 +8,4 @@ pub mod Listing
 pub mod Faults
 pub mod Compiling
 pub mod Spelling
+pub mod Working

@@ -4,8 +4,12 @@
 mod compiling;
 mod entry;
 mod fault;
+mod firing;
 mod laws;
+mod listing;
+mod marking;
 mod plan;
+mod site;
 mod text;
 
 pub use compiling::compile;

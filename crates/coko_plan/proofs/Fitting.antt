@@ -19,7 +19,7 @@ use Rattle.coko_plan.specs.Naming.{names_in, names_among, names_in_arms, forward
 use Rattle.coko_plan.specs.Listing.{or_else, place_of, earlier, wholes, whole_of, Listed, with_entry, put_name, put, put_left, put_more, put_right, put_rest, put_arms, put_blocks, listing}
 use Rattle.coko_plan.specs.Faults.{Fault, UnknownBlock, first, first_of, names_of_rules, rule_named, rule_fault, name_fault, block_fault, faults_behind, fault_of}
 use Rattle.coko_plan.specs.Compiling.{IsPlanOf, PlanOrFault}
-use Rattle.coko_plan.proofs.Firing.{any_append, fires_covers}
+use Rattle.coko_plan.proofs.Covering.{any_append, fires_covers}
 use Rattle.coko_plan.proofs.Standing.{both, found_stands, blocks_kept}
 
 -- ---- lists

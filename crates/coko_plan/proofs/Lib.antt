@@ -1,4 +1,4 @@
 mod EntryLaws
 mod Standing
-mod Firing
+mod Covering
 mod Fitting

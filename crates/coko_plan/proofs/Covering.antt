@@ -11,11 +11,11 @@ use Rattle.kola_match.proofs.RuleTests.{Variable, is_variable_at, fun_has, pred_
 use Rattle.kola_match.proofs.Occurring.{is_found, stands}
 use Rattle.coko_plan.specs.Variables.{const_variables, fun_variables, pred_variables, variables, same_variable, is_among, can_fire, Covers}
 
-or_assoc : (a b c : Bool) → (a || (b || c)) ≡ ((a || b) || c)
+pub or_assoc : (a b c : Bool) → (a || (b || c)) ≡ ((a || b) || c)
 or_assoc true b c = refl
 or_assoc false b c = refl
 
-or_false : (a : Bool) → (a || false) ≡ a
+pub or_false : (a : Bool) → (a || false) ≡ a
 or_false true = refl
 or_false false = refl
 

@@ -1,4 +1,5 @@
 mod EntryLaws
 mod Standing
 mod Covering
+mod Seeing
 mod Fitting

@@ -42,7 +42,7 @@ fn see_node(part: SubTerm, seen: &mut Variables) -> Result<(), Memory>
 }
 
 /// Adds the variables of a part.
-#[cycle(see)]
+#[tactic(auto, using(kola_term::proofs::ByChildren::by_children))]
 fn see(part: SubTerm, seen: &mut Variables) -> Result<(), Memory>
     ensures { OnOk result (Sees seen.old seen.new (variables (sub_tree part.entry))) }
 {
@@ -75,18 +75,25 @@ fn passes(part: SubTerm, seen: &Variables) -> bool
 }
 
 /// Whether each variable of a part was seen.
-#[cycle(all_seen)]
+#[tactic(auto, using(kola_term::proofs::ByChildren::by_children))]
 fn all_seen(part: SubTerm, seen: &Variables) -> bool
     ensures { result ≡ list_all (has_seen seen.now) (variables (sub_tree part.entry)) }
 {
-    if !passes(part, seen) {
-        return false;
-    }
+    let own = passes(part, seen);
     match part.children() {
-        Children::Leaf => true,
-        Children::One(a) => all_seen(a, seen),
-        Children::Two(a, b) => all_seen(a, seen) && all_seen(b, seen),
-        Children::Three(a, b, c) => all_seen(a, seen) && all_seen(b, seen) && all_seen(c, seen),
+        Children::Leaf => own,
+        Children::One(a) => own & all_seen(a, seen),
+        Children::Two(a, b) => {
+            let first = all_seen(a, seen);
+            let second = all_seen(b, seen);
+            own & (first & second)
+        }
+        Children::Three(a, b, c) => {
+            let first = all_seen(a, seen);
+            let second = all_seen(b, seen);
+            let third = all_seen(c, seen);
+            own & (first & (second & third))
+        }
     }
 }
 

@@ -144,3 +144,22 @@ module _ (p : TermTree → Bool) where
 
   pub none_at : (t : TermTree) (cs : List TermTree) → cs ≡ children t → list_all p (own t) ≡ false → false ≡ list_all p (variables t)
   none_at t cs e h = sym (ap (list_all p) (by_children t) ∙ (list_all-append p (own t) (flat_map variables (children t)) ∙ ap (λ z. z && list_all p (flat_map variables (children t))) h))
+
+-- ---- whether a rule may fire
+
+none_known : (w : TermTree) → knows [] [] [] w ≡ false
+none_known (TermF (FMeta n)) = refl
+none_known (TermP (PMeta n)) = refl
+none_known (TermC (CMeta n)) = refl
+none_known w = refl
+
+all_alike : (p q : TermTree → Bool) → ((w : TermTree) → p w ≡ q w) → (xs : List TermTree) → list_all p xs ≡ list_all q xs
+all_alike p q h [] = refl
+all_alike p q h (x ∷ xs) = ap₂ (λ a b. a && b) (h x) (all_alike p q h xs)
+
+-- what is seen after the one side, from nothing on, stands in it
+pub all_stand : (funs preds consts : List (List ℕ)) (s : Variables) (old new a b : TermTree) → funs ≡ [] → preds ≡ [] → consts ≡ [] → Sees (record { funs = funs; preds = preds; consts = consts }) s (variables old)
+    → old ≡ a → new ≡ b → list_all (has_seen s) (variables new) ≡ list_all (is_among (variables a)) (variables b)
+all_stand funs preds consts s old new a b e f g h i j =
+    all_alike (has_seen s) (is_among (variables old)) (λ w. h w ∙ ap (λ z. z || is_among (variables old) w) (ap (λ z. knows z preds consts w) e ∙ (ap (λ z. knows [] z consts w) f ∙ (ap (λ z. knows [] [] z w) g ∙ none_known w)))) (variables new)
+    ∙ ap₂ (λ x y. list_all (is_among (variables x)) (variables y)) i j

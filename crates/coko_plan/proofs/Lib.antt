@@ -2,4 +2,5 @@ mod EntryLaws
 mod Standing
 mod Covering
 mod Seeing
+mod Taking
 mod Fitting

@@ -5,4 +5,4 @@ use Rattle.coko_plan.specs.Working.Seen.{directions}
 use Rattle.coko_plan.proofs.firing.directions.Given as goal
 
 abbrev pub invariant-loop-n : goal.invariant-loop-n
-invariant-loop-n l = l.all.items ≡ map directions (map rule_tree (take l.n l.rules.now))
+invariant-loop-n l = l.all.items ≡ map directions (map rule_tree (take l.n l.rules))

@@ -3,4 +3,5 @@ mod Standing
 mod Covering
 mod Seeing
 mod Taking
+mod Wanting
 mod Fitting

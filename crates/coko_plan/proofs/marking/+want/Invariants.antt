@@ -7,13 +7,13 @@ use Rattle.coko_plan.specs.Working.Seen.{AddsNames}
 use Rattle.coko_plan.proofs.marking.+want.Given as goal
 
 abbrev pub decreases-want : goal.decreases-want
-decreases-want l = weight (stmt_tree l.s)
+decreases-want l = weight (stmt_tree l.s.now)
 
 abbrev pub decreases-want_all : goal.decreases-want_all
-decreases-want_all l = entries_weight (map stmt_tree l.parts)
+decreases-want_all l = entries_weight (map stmt_tree l.parts.now)
 
 abbrev pub decreases-want_in_arms : goal.decreases-want_in_arms
-decreases-want_in_arms l = arm_entries_weight (map arm_entry l.arms)
+decreases-want_in_arms l = arm_entries_weight (map arm_entry l.arms.now)
 
 abbrev pub invariant-want_all-loop-part : goal.invariant-want_all-loop-part
 invariant-want_all-loop-part l = AddsNames l.initial.wanted l.wanted (forward (names_among (of_stmts (map stmt_tree (take l.part-index l.parts)))))

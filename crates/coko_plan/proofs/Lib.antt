@@ -5,3 +5,4 @@ mod Seeing
 mod Taking
 mod Wanting
 mod Fitting
+mod Reaching

@@ -1,9 +1,10 @@
 //! Which blocks a chosen one reaches.
 
-ghost use Rattle.std.specs.Prelude.{◌≡◌, map, IfOk, OnOk};
+ghost use Rattle.std.specs.Prelude.{◌≡◌, [], map, cond, IfOk, OnOk};
+ghost use Rattle.kola_core.specs.NameLists.{is_listed};
 ghost use Rattle.coko_block.specs.Statements.{of_stmts, of_arms};
 ghost use Rattle.coko_block.specs.StmtViews.{stmt_tree, arm_entry, block_tree};
-ghost use Rattle.coko_plan.specs.Naming.{names_in, names_among, names_in_arms, forward};
+ghost use Rattle.coko_plan.specs.Naming.{names_in, names_among, names_in_arms, forward, uses};
 ghost use Rattle.coko_plan.specs.Working.Seen.{AddsNames};
 ghost use Rattle.coko_plan.specs.Working.Marks.{marks};
 
@@ -52,21 +53,29 @@ fn want_in_arms(arms: &[(Path, Stmt)], wanted: &mut NameTable) -> Result<(), Mem
     Ok(())
 }
 
+/// Whether a block is wanted. Where it is, the names by which it may run others are wanted too.
+fn mark(block: &Block, wanted: &mut NameTable) -> Result<bool, Memory>
+    ensures is_wanted { IfOk result (λ b. b ≡ is_listed block.now.name wanted.old) }
+    ensures adds { IfOk result (λ b. AddsNames wanted.old wanted.new (cond b (uses (block_tree block.now)) [])) }
+{
+    if !wanted.holds(block.name.as_text()) {
+        return Ok(false);
+    }
+    want(&block.stmt, wanted)?;
+    Ok(true)
+}
+
 /// Of each block, whether the chosen one reaches it.
 pub(crate) fn marks(alloc: Global, blocks: &[Block], chosen: &Name) -> Result<Vec<bool>, Memory>
     ensures { IfOk result (λ m. m.items ≡ marks chosen.now (map block_tree blocks.now)) }
 {
     let mut wanted = NameTable::new(alloc);
-    wanted.add(chosen.as_text())?;
+    add_name(&mut wanted, chosen)?;
     let mut marks = Vec::new(alloc);
     let mut left = blocks.len();
     while left > 0 {
         left -= 1;
-        let block = &blocks[left];
-        let reached = wanted.holds(block.name.as_text());
-        if reached {
-            want(&block.stmt, &mut wanted)?;
-        }
+        let reached = mark(&blocks[left], &mut wanted)?;
         marks.push(reached)?;
     }
     marks.reverse();

@@ -1,5 +1,5 @@
 -- Which blocks are reached, block by block.
-use Rattle.std.specs.Prelude.{ℕ, Bool, List, [], ◌∷◌, ◌++◌}
+use Rattle.std.specs.Prelude.{ℕ, Bool, List, [], ◌∷◌}
 use Rattle.kola_core.specs.NameLists.{is_listed}
 use Rattle.coko_block.specs.Statements.{BlockTree}
 use Rattle.coko_plan.specs.Naming.{wanted, reached}
@@ -8,8 +8,3 @@ use Rattle.coko_plan.specs.Naming.{wanted, reached}
 abbrev pub marks : List ℕ → List BlockTree → List Bool
 marks c [] = []
 marks c (b ∷ bs) = is_listed b.name (wanted c (reached c bs)) ∷ marks c bs
-
--- the last one first
-abbrev pub backwards : List Bool → List Bool
-backwards [] = []
-backwards (m ∷ ms) = backwards ms ++ m ∷ []

@@ -1,4 +1,4 @@
-mod EntryLaws
+pub mod EntryLaws
 mod Standing
 mod Covering
 mod Seeing
@@ -6,3 +6,4 @@ mod Taking
 mod Wanting
 mod Fitting
 mod Reaching
+mod Finding

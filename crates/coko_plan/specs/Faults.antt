@@ -30,10 +30,14 @@ names_of_rules rules = map (λ (r : RuleTree). r.name) rules
 abbrev pub rule_named : List RuleTree → List ℕ → Option RuleTree
 rule_named rules n = option_and_then (λ k. slice_get rules k) (position (bytes_eq n) (names_of_rules rules))
 
--- the fault of a name that is no earlier block's: a rule that cannot fire, or no rule; onwards are the names of its block and of the later ones
+-- the fault of a name that is no earlier block's and no rule's; onwards are the names of its block and of the later ones
+abbrev pub no_rule : List (List ℕ) → List ℕ → List ℕ → Option Fault
+no_rule onwards b n = Some (cond (is_listed n onwards) (LaterBlock b n) (UnknownRule b n))
+
+-- the fault of a name that is no earlier block's: a rule that cannot fire, or no rule
 abbrev pub rule_fault : List (List ℕ) → List ℕ → List ℕ → Bool → Option RuleTree → Option Fault
 rule_fault onwards b n rev (Some r) = cond (can_fire r rev) None (Some (CannotFire b n))
-rule_fault onwards b n rev None = Some (cond (is_listed n onwards) (LaterBlock b n) (UnknownRule b n))
+rule_fault onwards b n rev None = no_rule onwards b n
 
 -- the fault of a name in block b, before which blocks of these names stand: it is looked for among them, and then among the rules; a reversed one among the rules alone
 abbrev pub name_fault : List RuleTree → List (List ℕ) → List (List ℕ) → List ℕ → List ℕ × Bool → Option Fault

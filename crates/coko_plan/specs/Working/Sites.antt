@@ -1,10 +1,13 @@
 -- Where names are looked for: the rules, and the blocks of a file with the numbers of those before.
-use Rattle.std.specs.Prelude.{◌≡◌, ℕ, Bool, List, [], ◌∷◌, Option, Some, None, map, take, drop, length}
+use Rattle.std.specs.Prelude.{◌≡◌, ℕ, Bool, true, List, [], ◌∷◌, Option, Some, None, map, take, drop, length}
+use Rattle.kola_schema.specs.Schemas.{are_distinct}
 use Rattle.kola_rule.specs.Rules.{RuleTree}
 use Rattle.kola_rule.specs.RuleViews.{rule_tree}
 use Rattle.coko_plan.specs.Faults.{Fault, UnknownRule, LaterBlock, CannotFire, names_of_rules, name_fault, first_of}
 use Rattle.coko_plan.specs.Working.Seen.{directions}
 use Rattle.coko_plan.specs.declared.site.Site.{Site}
+use Rattle.coko_plan.specs.declared.site.Meaning.{Meaning}
+use Rattle.coko_plan.specs.declared.site.Meaning.TheVariants as meaning
 use Rattle.coko_plan.specs.declared.site.Stop.{Stop}
 use Rattle.coko_plan.specs.declared.site.Stop.TheVariants as stop
 
@@ -31,6 +34,10 @@ onwards_of s = drop (length s.numbers.now) s.names.now
 abbrev pub IsTested : Site → Type 0
 IsTested s = s.fires.now ≡ map directions (rules_of s)
 
+-- and no two blocks have one name
+abbrev pub IsOk : Site → Type 0
+IsOk s = IsTested s × (are_distinct s.names.now ≡ true)
+
 -- the fault of a name at the site, and the first of names
 abbrev pub site_fault : Site → List ℕ × Bool → Option Fault
 site_fault s x = name_fault (rules_of s) (before_of s) (onwards_of s) s.block.now x
@@ -44,3 +51,8 @@ StopTells b (stop.UnknownRule n) o = o ≡ Some (UnknownRule b n.now)
 StopTells b (stop.LaterBlock n) o = o ≡ Some (LaterBlock b n.now)
 StopTells b (stop.CannotFire n) o = o ≡ Some (CannotFire b n.now)
 StopTells b stop.Memory o = Unit {0}
+
+-- a name is the block of the number that is known, or else the rule at the place
+abbrev pub IsMeant : Meaning → Option ℕ → ℕ → Type 0
+IsMeant (meaning.Block i) o r = o ≡ Some i
+IsMeant (meaning.Rule k) o r = (o ≡ None) × (k ≡ r)

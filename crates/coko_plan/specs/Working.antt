@@ -3,3 +3,4 @@ pub mod Seen
 pub mod Marks
 pub mod Sites
 pub mod Groups
+pub mod Puts

@@ -7,3 +7,4 @@ mod Wanting
 mod Fitting
 mod Reaching
 mod Finding
+mod Putting

@@ -105,14 +105,14 @@ fn push_arm(arms: &mut PlanArms, path: &Path, number: usize) -> Result<(), Memor
 fn push_groups<'a>(entries: &mut Vec<Entry>, numbers: &[usize]) -> Result<usize, Stop<'a>>
     ensures { Makes (group (map entry_tree entries.old.items) numbers.now) entries.new.items result }
 {
-    let Some((last, before)) = numbers.split_last() else {
+    if numbers.is_empty() {
         return push_entry(entries, Entry::Skip);
-    };
-    let mut whole = *last;
-    let mut left = before.len();
+    }
+    let mut left = numbers.len() - 1;
+    let mut whole = numbers[left];
     while left > 0 {
         left -= 1;
-        whole = push_entry(entries, Entry::Then(before[left], whole))?;
+        whole = push_entry(entries, Entry::Then(numbers[left], whole))?;
     }
     Ok(whole)
 }

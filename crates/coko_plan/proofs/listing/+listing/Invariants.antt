@@ -45,9 +45,9 @@ invariant-list_all-loop-part l =
       ≡ put_all_at l.site (of_stmts (map stmt_tree l.parts)) (map entry_tree l.initial.entries.items)) ×
     (site_faults l.site (names_among (of_stmts (map stmt_tree (drop l.part-index l.parts)))) ≡ site_faults l.site (names_among (of_stmts (map stmt_tree l.parts))))
 
-abbrev pub invariant-list_arms-loop-s : goal.invariant-list_arms-loop-s
-invariant-list_arms-loop-s l =
-    (((put_arms_at l.site (of_arms (map arm_entry (drop l.s-index l.arms))) (map entry_tree l.entries.items)).0,
-      l.listed ++ (put_arms_at l.site (of_arms (map arm_entry (drop l.s-index l.arms))) (map entry_tree l.entries.items)).1)
+abbrev pub invariant-list_arms-loop-path : goal.invariant-list_arms-loop-path
+invariant-list_arms-loop-path l =
+    (((put_arms_at l.site (of_arms (map arm_entry (drop l.path-index l.arms))) (map entry_tree l.entries.items)).0,
+      l.listed ++ (put_arms_at l.site (of_arms (map arm_entry (drop l.path-index l.arms))) (map entry_tree l.entries.items)).1)
       ≡ put_arms_at l.site (of_arms (map arm_entry l.arms)) (map entry_tree l.initial.entries.items)) ×
-    (site_faults l.site (names_in_arms (of_arms (map arm_entry (drop l.s-index l.arms)))) ≡ site_faults l.site (names_in_arms (of_arms (map arm_entry l.arms))))
+    (site_faults l.site (names_in_arms (of_arms (map arm_entry (drop l.path-index l.arms)))) ≡ site_faults l.site (names_in_arms (of_arms (map arm_entry l.arms))))

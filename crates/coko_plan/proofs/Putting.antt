@@ -13,7 +13,7 @@ use Rattle.coko_plan.specs.Faults.{Fault, first, first_of, names_of_rules}
 use Rattle.coko_plan.specs.Listing.{Listed, with_entry, put, put_more, put_right, put_rest}
 use Rattle.coko_plan.specs.Working.Groups.{pair_entry, put_all, grouped, group}
 use Rattle.coko_plan.specs.Working.Sites.{rules_of, known_of, site_fault, site_faults, StopTells}
-use Rattle.coko_plan.specs.Working.Puts.{Makes, Puts, put_at, put_more_at, put_all_at, put_arms_at}
+use Rattle.coko_plan.specs.Working.Puts.{Makes, Puts, put_at, put_left_at, put_more_at, put_all_at, put_arms_at}
 use Rattle.coko_plan.specs.declared.entry.Entry.{Entry}
 use Rattle.coko_plan.specs.declared.listing.Pairing.{Pairing}
 use Rattle.coko_plan.specs.declared.site.Site.{Site}
@@ -140,3 +140,19 @@ makes_puts s xs f x old new (Err e) m h k = subst (λ z. StopTells s.block.now z
 
 pub err_puts : {A B : Type 0} (v : A → B) (s : Site) (xs : List (List ℕ × Bool)) (f : List EntryTree → List EntryTree × B) (old new : List Entry) (r : Result A Stop) (e : Stop) → r ≡ Err e → StopTells s.block.now e (site_faults s xs) → Puts v s xs f old new r
 err_puts v s xs f old new r e h k = subst (Puts v s xs f old new) (sym h) k
+
+-- the first statement, and those behind it
+pub left_puts : (s : Site) (p : Pairing) (all others : List Stmt) (x : Stmt) (old mid new : List Entry) (n : ℕ) (r : Result ℕ Stop) → all ≡ x ∷ others → (map entry_tree mid, n) ≡ put_at s (stmt_tree x) (map entry_tree old) → site_faults s (names_in (stmt_tree x)) ≡ None
+    → Puts (λ k. k) s (names_among (of_stmts (map stmt_tree others))) (put_more_at s p n (of_stmts (map stmt_tree others))) mid new r → Puts (λ k. k) s (names_among (of_stmts (map stmt_tree all))) (put_left_at s p (of_stmts (map stmt_tree all))) old new r
+left_puts s p all others x old mid new n r e h k m = subst (λ ys. Puts (λ k. k) s (names_among (of_stmts (map stmt_tree ys))) (put_left_at s p (of_stmts (map stmt_tree ys))) old new r) (sym e) (step r m)
+  where
+    step : (q : Result ℕ Stop) → Puts (λ k. k) s (names_among (of_stmts (map stmt_tree others))) (put_more_at s p n (of_stmts (map stmt_tree others))) mid new q
+      → Puts (λ k. k) s (names_in (stmt_tree x) ++ names_among (of_stmts (map stmt_tree others))) (put_left_at s p (MoreStmts (stmt_tree x) (of_stmts (map stmt_tree others)))) old new q
+    step (Ok i) g = (
+      g.0 ∙ ap (λ (y : Listed). put_more (pair_entry p) (names_of_rules (rules_of s)) (known_of s) y (of_stmts (map stmt_tree others))) h,
+      sym (part_passes s (names_in (stmt_tree x)) (names_among (of_stmts (map stmt_tree others))) k) ∙ g.1,
+    )
+    step (Err f) g = subst (StopTells s.block.now f) (part_passes s (names_in (stmt_tree x)) (names_among (of_stmts (map stmt_tree others))) k) g
+
+pub left_stops : (s : Site) (all others : List Stmt) (x : Stmt) (f : Stop) → all ≡ x ∷ others → StopTells s.block.now f (site_faults s (names_in (stmt_tree x))) → StopTells s.block.now f (site_faults s (names_among (of_stmts (map stmt_tree all))))
+left_stops s all others x f e h = subst (λ ys. StopTells s.block.now f (site_faults s (names_among (of_stmts (map stmt_tree ys))))) (sym e) (part_stops s (names_in (stmt_tree x)) (names_among (of_stmts (map stmt_tree others))) f h)

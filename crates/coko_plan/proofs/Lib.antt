@@ -8,3 +8,4 @@ mod Fitting
 mod Reaching
 mod Finding
 mod Putting
+mod Blocks

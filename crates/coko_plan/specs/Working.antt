@@ -4,3 +4,4 @@ pub mod Marks
 pub mod Sites
 pub mod Groups
 pub mod Puts
+pub mod Compiles

@@ -53,7 +53,8 @@ fn walk_of(walk: Walk, part: usize) -> Entry
     }
 }
 
-fn push<T: Drop>(all: &mut Vec<T>, it: T) -> Result<(), Memory>
+/// Adds an entry of any list at the end.
+pub(crate) fn push<T: Drop>(all: &mut Vec<T>, it: T) -> Result<(), Memory>
     ensures { OnOk result (all.new.items ≡ all.old.items ++ it ∷ []) }
 {
     all.push(it)?;

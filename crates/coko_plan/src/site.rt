@@ -13,6 +13,7 @@ use kola_rule::RuleTable;
 
 /// A block of a file: the rules and which of them may fire, the names of all blocks, and the numbers of the statements of
 /// those before it.
+#[derive(Clone, Copy)]
 pub(crate) struct Site<'a> {
     pub(crate) rules: &'a RuleTable,
     pub(crate) fires: &'a [(bool, bool)],
@@ -49,7 +50,7 @@ pub(crate) enum Meaning {
 }
 
 /// The number at a place; `None` past the end.
-fn number_at(numbers: &[usize], place: usize) -> Option<usize>
+pub(crate) fn number_at(numbers: &[usize], place: usize) -> Option<usize>
     ensures { result ≡ slice_get numbers.now place }
 {
     numbers.get(place).copied()

@@ -1,5 +1,5 @@
 -- How the listing of a file is put together of those of its blocks, where the numbers of all blocks before are kept.
-use Rattle.std.proofs.Common.{◌≡◌, ℕ, zero, suc, ◌+◌, ◌-◌, ◌<◌, ◌≤◌, Bool, true, false, cond, ◌||◌, List, [], ◌∷◌, ◌++◌, Option, Some, None, length, get_or, map, take, drop, refl, sym, ap, ap₂, ◌∙◌, subst, arith}
+use Rattle.std.proofs.Common.{◌≡◌, ℕ, zero, suc, ◌+◌, ◌-◌, ◌<◌, ◌≤◌, Bool, true, false, cond, ◌||◌, List, [], ◌∷◌, ◌++◌, Option, Some, None, length, length-append, get_or, map, take, drop, refl, sym, ap, ap₂, ◌∙◌, subst, arith}
 use Rattle.std.specs.Str.{bytes_eq}
 use Rattle.std.proofs.lemmas.List.{take_more, drop_more}
 use Rattle.kola_core.specs.NameLists.{is_listed}
@@ -7,11 +7,16 @@ use Rattle.kola_values.specs.Databases.{look_up}
 use Rattle.kola_term.proofs.Introductions.{same_name_itself}
 use Rattle.kola_rule.specs.Rules.{RuleTree}
 use Rattle.coko_block.specs.Statements.{StmtTree, SFire, SSkip, SFail, SSeq, SThen, SElse, SBu, STd, SRepeat, SGiven, StmtTrees, NoStmts, MoreStmts, ArmTrees, NoArms, MoreArms, BlockTree}
+use Rattle.coko_block.specs.StmtViews.{block_tree}
+use Rattle.coko_block.specs.declared.stmt.Block.{Block}
 use Rattle.coko_block.specs.WellFormed.{block_names}
 use Rattle.coko_plan.specs.Entries.{EntryTree, ESkip, ESeq, EThen, EElse, EBu, ETd, ERepeat, EGiven}
 use Rattle.coko_plan.specs.Naming.{names_in, names_among, names_in_arms, forward, uses, wanted, reached}
 use Rattle.coko_plan.specs.Faults.{Fault, first, first_of, names_of_rules, name_fault, block_fault, faults_behind}
 use Rattle.coko_plan.specs.Listing.{or_else, place_of, earlier, Listed, with_entry, put_name, put, put_left, put_more, put_right, put_rest, put_arms, put_blocks, listing}
+use Rattle.coko_plan.specs.Compiling.{Tells}
+use Rattle.coko_plan.specs.declared.fault.CompileFault.{CompileFault}
+use Rattle.coko_plan.specs.declared.fault.CompileFault.TheVariants as fault
 use Rattle.coko_plan.specs.Working.Marks.{marks}
 use Rattle.coko_plan.specs.Working.Sites.{numbered}
 use Rattle.coko_plan.proofs.Covering.{any_append}
@@ -135,3 +140,90 @@ keeps_first R c bs es is e h = record {
     none : (ms : List (List ℕ)) → numbered ms [] ≡ []
     none [] = refl
     none (k ∷ ms) = refl
+
+pub names_as : (bs : List Block) → block_names (map block_tree bs) ≡ map (λ (b : Block). b.name) bs
+names_as [] = refl
+names_as (b ∷ bs) = ap (λ z. b.name ∷ z) (names_as bs)
+
+tells_first : (f : CompileFault) (o p : Option Fault) → Tells f o → Tells f (first o p)
+tells_first fault.UnknownBlock o p h = ap (λ z. first z p) h
+tells_first (fault.UnknownRule b n) o p h = ap (λ z. first z p) h
+tells_first (fault.LaterBlock b n) o p h = ap (λ z. first z p) h
+tells_first (fault.CannotFire b n) o p h = ap (λ z. first z p) h
+tells_first fault.Memory o p h = tt
+
+-- ---- one block
+
+module _ (R : List RuleTree) (c : List ℕ) (bs : List BlockTree) (i : ℕ) (b : BlockTree) (l : i < length bs) (e : b ≡ get_or bs i b) where
+  block_dropped : drop i bs ≡ b ∷ drop (i + 1) bs
+  block_dropped = drop_more bs i b l ∙ ap (λ y. y ∷ drop (i + 1) bs) (sym e)
+
+  names_length : (as' : List BlockTree) → length (block_names as') ≡ length as'
+  names_length [] = refl
+  names_length (a ∷ as') = ap suc (names_length as')
+
+  name_at : (as' : List BlockTree) (k : ℕ) → b ≡ get_or as' k b → k < length as' → b.name ≡ get_or (block_names as') k b.name
+  name_at [] k h p = absurd (omega (arith, p))
+  name_at (a ∷ as') zero h p = ap (λ (z : BlockTree). z.name) h
+  name_at (a ∷ as') (suc k) h p = name_at as' k h (omega (arith, p))
+
+  names_taken : take (i + 1) (block_names bs) ≡ take i (block_names bs) ++ b.name ∷ []
+  names_taken = take_more (block_names bs) i b.name (omega (arith, l, names_length bs)) ∙ ap (λ z. take i (block_names bs) ++ z ∷ []) (sym (name_at bs i e l))
+
+  pub names_left : drop i (block_names bs) ≡ b.name ∷ block_names (drop (i + 1) bs)
+  names_left = drop_names bs i ∙ ap block_names block_dropped
+    where
+      drop_names : (as' : List BlockTree) (k : ℕ) → drop k (block_names as') ≡ block_names (drop k as')
+      drop_names as' zero = refl
+      drop_names [] (suc k) = refl
+      drop_names (a ∷ as') (suc k) = drop_names as' k
+
+  numbers_more : (is : List ℕ) (k : ℕ) → length is ≡ i → numbered (block_names bs) (is ++ k ∷ []) ≡ numbered (block_names bs) is ++ (b.name, k) ∷ []
+  numbers_more is k h = numbered_more (block_names bs) is b.name k (omega (arith, h, l, names_length bs)) (subst (λ j. b.name ≡ get_or (block_names bs) j b.name) (sym h) (name_at bs i e l))
+
+  abbrev pub Reached : Bool → Type 0
+  Reached t = t ≡ is_listed b.name (wanted c (reached c (drop (i + 1) bs)))
+
+  head_reached : (t : Bool) → Reached t → reached c (drop i bs) ≡ cond t (b ∷ reached c (drop (i + 1) bs)) (reached c (drop (i + 1) bs))
+  head_reached t h = ap (reached c) block_dropped ∙ ap (λ z. cond z (b ∷ reached c (drop (i + 1) bs)) (reached c (drop (i + 1) bs))) (sym h)
+
+  head_faults : (t : Bool) → Reached t → faults_behind R c (take i (block_names bs)) (drop i bs) ≡ first (cond t (block_fault R (take i (block_names bs)) b (drop (i + 1) bs)) None) (faults_behind R c (take (i + 1) (block_names bs)) (drop (i + 1) bs))
+  head_faults t h =
+      ap (faults_behind R c (take i (block_names bs))) block_dropped
+      ∙ (ap (λ z. first (cond z (block_fault R (take i (block_names bs)) b (drop (i + 1) bs)) None) (faults_behind R c (take i (block_names bs) ++ b.name ∷ []) (drop (i + 1) bs))) (sym h)
+      ∙ ap (λ z. first (cond t (block_fault R (take i (block_names bs)) b (drop (i + 1) bs)) None) (faults_behind R c z (drop (i + 1) bs))) (sym names_taken))
+
+  -- the numbers that are kept are enough for the block
+  put_kept : (es : List EntryTree) (is : List ℕ) (k : Keeps R c bs i es is) → Reached true → put (names_of_rules R) (numbered (block_names bs) is) es b.stmt ≡ put (names_of_rules R) k.known es b.stmt
+  put_kept es is k h = sym (put_alike k.known (numbered (block_names bs) is) (names_of_rules R) es b.stmt (λ n u. k.knows n (ap (λ z. is_listed n (wanted c z)) (head_reached true h) ∙ used_wanted n c b (reached c (drop (i + 1) bs)) u)))
+
+  pub keeps_reached : (es mid : List EntryTree) (is new : List ℕ) (n : ℕ) → Keeps R c bs i es is → Reached true → (mid, n) ≡ put (names_of_rules R) (numbered (block_names bs) is) es b.stmt
+    → first_of (name_fault R (take i (block_names bs)) (b.name ∷ block_names (drop (i + 1) bs)) b.name) (names_in b.stmt) ≡ None → new ≡ is ++ n ∷ [] → Keeps R c bs (i + 1) mid new
+  keeps_reached es mid is new n k h p f m = record {
+    known = k.known ++ (b.name, n) ∷ [];
+    counts = ap length m ∙ (length-append is (n ∷ []) ∙ ap (λ z. z + 1) k.counts);
+    lists = ap (λ (y : Listed). put_blocks (names_of_rules R) (k.known ++ (b.name, y.1) ∷ []) y.0 (reached c (drop (i + 1) bs))) (p ∙ put_kept es is k h) ∙ (ap (put_blocks (names_of_rules R) k.known es) (sym (head_reached true h)) ∙ k.lists);
+    knows = λ q w.
+      known_more q k.known ((b.name, n) ∷ [])
+      ∙ (ap (λ o. either o (look_up q ((b.name, n) ∷ []))) (k.knows q (ap (λ z. is_listed q (wanted c z)) (head_reached true h) ∙ wanted_on q c b (reached c (drop (i + 1) bs)) w))
+      ∙ (sym (known_more q (numbered (block_names bs) is) ((b.name, n) ∷ [])) ∙ ap (look_up q) (sym (ap (numbered (block_names bs)) m ∙ numbers_more is n k.counts))));
+    faults = sym (head_faults true h ∙ ap (λ o. first o (faults_behind R c (take (i + 1) (block_names bs)) (drop (i + 1) bs))) f) ∙ k.faults;
+  }
+
+  pub keeps_other : (es mid : List EntryTree) (is new : List ℕ) (n : ℕ) → Keeps R c bs i es is → Reached false → mid ≡ es → new ≡ is ++ n ∷ [] → Keeps R c bs (i + 1) mid new
+  keeps_other es mid is new n k h p m = record {
+    known = k.known;
+    counts = ap length m ∙ (length-append is (n ∷ []) ∙ ap (λ z. z + 1) k.counts);
+    lists = ap (λ z. put_blocks (names_of_rules R) k.known z (reached c (drop (i + 1) bs))) p ∙ (ap (put_blocks (names_of_rules R) k.known es) (sym (head_reached false h)) ∙ k.lists);
+    knows = λ q w.
+      k.knows q (ap (λ z. is_listed q (wanted c z)) (head_reached false h) ∙ w)
+      ∙ (either_none (look_up q (numbered (block_names bs) is))
+      ∙ (ap (λ t. either (look_up q (numbered (block_names bs) is)) (cond t (Some n) None)) (sym (apart q b.name (wanted c (reached c (drop (i + 1) bs))) w (sym h)))
+      ∙ (sym (known_more q (numbered (block_names bs) is) ((b.name, n) ∷ [])) ∙ ap (look_up q) (sym (ap (numbered (block_names bs)) m ∙ numbers_more is n k.counts)))));
+    faults = sym (head_faults false h) ∙ k.faults;
+  }
+
+  -- a fault of a reached block is the first
+  pub reached_stops : (es : List EntryTree) (is : List ℕ) (f : CompileFault) → Keeps R c bs i es is → Reached true
+    → Tells f (first_of (name_fault R (take i (block_names bs)) (b.name ∷ block_names (drop (i + 1) bs)) b.name) (names_in b.stmt)) → Tells f (faults_behind R c [] bs)
+  reached_stops es is f k h t = subst (Tells f) (sym (head_faults true h) ∙ k.faults) (tells_first f _ (faults_behind R c (take (i + 1) (block_names bs)) (drop (i + 1) bs)) t)

@@ -1,7 +1,7 @@
 -- How the listing of a file is put together of those of its blocks, where the numbers of all blocks before are kept.
 use Rattle.std.proofs.Common.{◌≡◌, ℕ, zero, suc, ◌+◌, ◌-◌, ◌<◌, ◌≤◌, Bool, true, false, cond, ◌||◌, List, [], ◌∷◌, ◌++◌, Option, Some, None, length, length-append, get_or, map, take, drop, refl, sym, ap, ap₂, ◌∙◌, subst, arith}
 use Rattle.std.specs.Str.{bytes_eq}
-use Rattle.std.proofs.lemmas.List.{take_more, drop_more}
+use Rattle.std.proofs.lemmas.List.{take_more, drop_more, drop_all}
 use Rattle.kola_core.specs.NameLists.{is_listed}
 use Rattle.kola_values.specs.Databases.{look_up}
 use Rattle.kola_term.proofs.Introductions.{same_name_itself}
@@ -18,7 +18,12 @@ use Rattle.coko_plan.specs.Compiling.{Tells}
 use Rattle.coko_plan.specs.declared.fault.CompileFault.{CompileFault}
 use Rattle.coko_plan.specs.declared.fault.CompileFault.TheVariants as fault
 use Rattle.coko_plan.specs.Working.Marks.{marks}
-use Rattle.coko_plan.specs.Working.Sites.{numbered}
+use Rattle.coko_plan.specs.EntryViews.{entry_tree}
+use Rattle.coko_plan.specs.Working.Sites.{numbered, rules_of, site_faults}
+use Rattle.coko_plan.specs.Working.Puts.{put_at}
+use Rattle.coko_plan.specs.Working.Compiles.{BlockPut}
+use Rattle.coko_plan.specs.declared.entry.Entry.{Entry}
+use Rattle.coko_plan.specs.declared.site.Site.{Site}
 use Rattle.coko_plan.proofs.Covering.{any_append}
 use Rattle.coko_plan.proofs.Wanting.{forward_append}
 use Rattle.coko_plan.proofs.Fitting.{wanted_on, used_wanted, apart}
@@ -227,3 +232,49 @@ module _ (R : List RuleTree) (c : List ℕ) (bs : List BlockTree) (i : ℕ) (b :
   pub reached_stops : (es : List EntryTree) (is : List ℕ) (f : CompileFault) → Keeps R c bs i es is → Reached true
     → Tells f (first_of (name_fault R (take i (block_names bs)) (b.name ∷ block_names (drop (i + 1) bs)) b.name) (names_in b.stmt)) → Tells f (faults_behind R c [] bs)
   reached_stops es is f k h t = subst (Tells f) (sym (head_faults true h) ∙ k.faults) (tells_first f _ (faults_behind R c (take (i + 1) (block_names bs)) (drop (i + 1) bs)) t)
+
+  -- ---- the block at its site
+
+  module _ (s : Site) (is : List ℕ) (rules : rules_of s ≡ R) (names : s.names.now ≡ block_names bs) (numbers : s.numbers.now ≡ is) (block : s.block.now ≡ b.name) where
+    site_put : (es : List EntryTree) → put_at s b.stmt es ≡ put (names_of_rules R) (numbered (block_names bs) is) es b.stmt
+    site_put es = ap (λ r. put (names_of_rules r) (numbered s.names.now s.numbers.now) es b.stmt) rules ∙ ap₂ (λ ns js. put (names_of_rules R) (numbered ns js) es b.stmt) names numbers
+
+    site_same : length is ≡ i → (xs : List (List ℕ × Bool)) → site_faults s xs ≡ first_of (name_fault R (take i (block_names bs)) (b.name ∷ block_names (drop (i + 1) bs)) b.name) xs
+    site_same h xs =
+        ap₂ (λ r z. first_of (name_fault r (take (length s.numbers.now) s.names.now) (drop (length s.numbers.now) s.names.now) z) xs) rules block
+        ∙ (ap₂ (λ js ns. first_of (name_fault R (take (length js) ns) (drop (length js) ns) b.name) xs) numbers names
+        ∙ (ap (λ k. first_of (name_fault R (take k (block_names bs)) (drop k (block_names bs)) b.name) xs) h
+        ∙ ap (λ z. first_of (name_fault R (take i (block_names bs)) z b.name) xs) names_left))
+
+    pub keeps_block : (t : Bool) (old new : List Entry) (next : List ℕ) (n : ℕ) → Reached t → Keeps R c bs i (map entry_tree old) is → BlockPut t s b.stmt old new n → next ≡ is ++ n ∷ [] → Keeps R c bs (i + 1) (map entry_tree new) next
+    keeps_block true old new next n h k p m = keeps_reached (map entry_tree old) (map entry_tree new) is next n k h (p.0 ∙ site_put (map entry_tree old)) (sym (site_same k.counts (names_in b.stmt)) ∙ p.1) m
+    keeps_block false old new next n h k p m = keeps_other (map entry_tree old) (map entry_tree new) is next n k h p m
+
+    pub block_stops : (t : Bool) (es : List EntryTree) (f : CompileFault) → Reached t → Keeps R c bs i es is → (t ≡ true) × Tells f (site_faults s (names_in b.stmt)) → Tells f (faults_behind R c [] bs)
+    block_stops true es f h k p = reached_stops es is f k h (subst (Tells f) (site_same k.counts (names_in b.stmt)) p.1)
+    block_stops false es f h k p = absurd (impossible p.0)
+      where
+        impossible : false ≡ true → ⊥
+        impossible q = absurd (cc)
+
+-- ---- all blocks
+
+pub keeps_last : (R : List RuleTree) (c : List ℕ) (bs : List BlockTree) (i : ℕ) (es : List EntryTree) (is : List ℕ) → Keeps R c bs i es is → length bs ≤ i
+    → ((es, or_else (look_up c (numbered (block_names bs) is)) 0) ≡ listing (names_of_rules R) c bs) × (faults_behind R c [] bs ≡ None)
+keeps_last R c bs i es is k l =
+    let none = drop_all i bs l in (
+      ap (λ o. (es, or_else o 0)) (sym (k.knows c (or_left (bytes_eq c c) _ (same_name_itself c))))
+      ∙ ap (λ (y : List EntryTree × List (List ℕ × ℕ)). (y.0, or_else (look_up c y.1) 0)) (ap (λ z. put_blocks (names_of_rules R) k.known es (reached c z)) (sym none) ∙ k.lists),
+      sym k.faults ∙ ap (faults_behind R c (take i (block_names bs))) none,
+    )
+
+pub marks_length : (c : List ℕ) (bs : List BlockTree) → length (marks c bs) ≡ length bs
+marks_length c [] = refl
+marks_length c (b ∷ bs) = ap suc (marks_length c bs)
+
+pub mark_at : (c : List ℕ) (bs : List BlockTree) (i : ℕ) (b : BlockTree) (d : Bool) → i < length bs → b ≡ get_or bs i b → get_or (marks c bs) i d ≡ is_listed b.name (wanted c (reached c (drop (i + 1) bs)))
+mark_at c [] i b d l e = absurd (omega (arith, l))
+mark_at c (a ∷ bs) zero b d l e = ap (λ (z : BlockTree). is_listed z.name (wanted c (reached c bs))) (sym e)
+mark_at c (a ∷ bs) (suc i) b d l e =
+    let q : suc (i + 1) ≡ suc i + 1 = omega arith in
+    mark_at c bs i b d (omega (arith, l)) e ∙ ap (λ j. is_listed b.name (wanted c (reached c (drop j (a ∷ bs))))) q

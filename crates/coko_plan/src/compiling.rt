@@ -110,17 +110,19 @@ fn list_blocks(
         entries.new.items result }
 {
     let fires = directions(alloc, rules)?;
-    let reached = marks(alloc, blocks, chosen)?;
+    let marks = marks(alloc, blocks, chosen)?;
+    let reached = marks.as_slice();
     let mut numbers = Vec::new(alloc);
     for n in 0..blocks.len() {
+        let block = &blocks[n];
         let site = Site {
             rules,
             fires: fires.as_slice(),
             names,
             numbers: numbers.as_slice(),
-            block: &blocks[n].name,
+            block: &block.name,
         };
-        let number = list_block(&site, entries, &blocks[n].stmt, reached[n])?;
+        let number = list_block(&site, entries, &block.stmt, reached[n])?;
         push(&mut numbers, number)?;
     }
     Ok(numbers)

@@ -16,11 +16,11 @@ loop-block-preserved c =
     let names = c.loop-block.names in
     let bs = c.args.blocks.now in
     let i = c.loop-block.block-index in
-    let as = names_as bs in
-    let distinct : are_distinct (map (λ (b : Block). b.name) bs) ≡ true = ap are_distinct (sym as) ∙ c.requires in
-    let new = ap (is_listed item.name) (c.loop-block.invariant ∙ ap (take i) as) ∙ fresh (λ (b : Block). b.name) bs i item c.loop-block-test.true c.block-item.is distinct in
+    let alike = names_as bs in
+    let distinct : are_distinct (map (λ (b : Block). b.name) bs) ≡ true = ap are_distinct (sym alike) ∙ c.requires in
+    let new = ap (is_listed item.name) (c.loop-block.invariant ∙ ap (take i) alike) ∙ fresh (λ (b : Block). b.name) bs i item c.loop-block-test.true c.block-item.is distinct in
     c.in_ok-add.ensures.added
     ∙ ap (with_name names) c.as_text.ensures.text
     ∙ with_new names item.name new
     ∙ ap (λ l. l ++ item.name ∷ []) c.loop-block.invariant
-    ∙ sym (taken_more (λ (b : Block). b.name) bs (block_names (map block_tree bs)) i item (sym as) c.loop-block-test.true c.block-item.is)
+    ∙ sym (taken_more (λ (b : Block). b.name) bs (block_names (map block_tree bs)) i item (sym alike) c.loop-block-test.true c.block-item.is)

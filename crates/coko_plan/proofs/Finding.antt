@@ -83,7 +83,7 @@ some_place : (c : Bool) (i : ℕ) → is_some (cond c (Some i) None) ≡ c
 some_place true i = refl
 some_place false i = refl
 
-placed : (n : List ℕ) (ns : List (List ℕ)) → is_some (position (bytes_eq n) ns) ≡ is_listed n ns
+pub placed : (n : List ℕ) (ns : List (List ℕ)) → is_some (position (bytes_eq n) ns) ≡ is_listed n ns
 placed n ns = some_place (nat_lt (position_or_len (bytes_eq n) ns) (length ns)) (position_or_len (bytes_eq n) ns) ∙ before_end (bytes_eq n) ns
 
 from_zero : (o : Option ℕ) → is_some o ≡ is_from 0 o

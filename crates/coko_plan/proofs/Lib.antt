@@ -9,3 +9,4 @@ mod Reaching
 mod Finding
 mod Putting
 mod Blocks
+mod Made

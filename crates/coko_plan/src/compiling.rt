@@ -1,12 +1,13 @@
 //! The plan of a block.
 
-ghost use Rattle.std.specs.Prelude.{◌≡◌, [], true, map, IfOk, IfErr};
+ghost use Rattle.std.specs.Prelude.{◌≡◌, [], true, map, slice_get, IfOk, IfErr};
 ghost use Rattle.kola_schema.specs.Schemas.{are_distinct};
 ghost use Rattle.kola_rule.specs.RuleViews.{rule_tree};
 ghost use Rattle.coko_block.specs.StmtViews.{stmt_tree, block_tree};
 ghost use Rattle.coko_block.specs.WellFormed.{BlocksOk, block_names};
 ghost use Rattle.coko_plan.specs.EntryViews.{entries_of, start_of};
 ghost use Rattle.coko_plan.specs.Faults.{fault_of};
+ghost use Rattle.coko_plan.specs.Listing.{or_else};
 ghost use Rattle.coko_plan.specs.Compiling.{IsPlanOf, Tells};
 ghost use Rattle.coko_plan.specs.Working.Sites.{IsOk};
 ghost use Rattle.coko_plan.specs.Working.Compiles.{TellsAs, PutsBlock, PutsBlocks};
@@ -128,6 +129,16 @@ fn list_blocks(
     Ok(numbers)
 }
 
+/// The number at a place, which is there.
+fn start_at(numbers: &[usize], place: usize) -> usize
+    ensures { result ≡ or_else (slice_get numbers.now place) 0 }
+{
+    match number_at(numbers, place) {
+        Some(number) => number,
+        None => 0,
+    }
+}
+
 /// The plan of the block of a name, over the rules of a table: the entries of the blocks that it reaches, in the file's
 /// order, each block once. The faults but for the first are those of the first faulty name: over the reached blocks in
 /// the file's order, and in each in the order of its text. The file's blocks have distinct names, and each arm of a
@@ -146,11 +157,12 @@ pub fn compile(
 {
     let blocks = file.blocks.as_slice();
     let names = names_of(alloc, blocks)?;
-    let Some(place) = names.place(block.as_text()) else {
-        return Err(CompileFault::UnknownBlock);
+    let place = match names.place(block.as_text()) {
+        Some(place) => place,
+        None => return Err(CompileFault::UnknownBlock),
     };
     let mut entries = Vec::new(alloc);
     let numbers = list_blocks(alloc, rules, &names, blocks, block, &mut entries)?;
-    let start = number_at(numbers.as_slice(), place).unwrap_or(0);
+    let start = start_at(numbers.as_slice(), place);
     Ok(Plan::of_entries(entries, start))
 }

@@ -10,3 +10,4 @@ mod Finding
 mod Putting
 mod Blocks
 mod Made
+mod Writing

@@ -203,15 +203,15 @@ module _ (R : List RuleTree) (c : List ℕ) (bs : List BlockTree) (i : ℕ) (b :
   put_kept es is k h = sym (put_alike k.known (numbered (block_names bs) is) (names_of_rules R) es b.stmt (λ n u. k.knows n (ap (λ z. is_listed n (wanted c z)) (head_reached true h) ∙ used_wanted n c b (reached c (drop (i + 1) bs)) u)))
 
   pub keeps_reached : (es mid : List EntryTree) (is new : List ℕ) (n : ℕ) → Keeps R c bs i es is → Reached true → (mid, n) ≡ put (names_of_rules R) (numbered (block_names bs) is) es b.stmt
-    → first_of (name_fault R (take i (block_names bs)) (b.name ∷ block_names (drop (i + 1) bs)) b.name) (names_in b.stmt) ≡ None → new ≡ is ++ n ∷ [] → Keeps R c bs (i + 1) mid new
+      → first_of (name_fault R (take i (block_names bs)) (b.name ∷ block_names (drop (i + 1) bs)) b.name) (names_in b.stmt) ≡ None → new ≡ is ++ n ∷ [] → Keeps R c bs (i + 1) mid new
   keeps_reached es mid is new n k h p f m = record {
     known = k.known ++ (b.name, n) ∷ [];
     counts = ap length m ∙ (length-append is (n ∷ []) ∙ ap (λ z. z + 1) k.counts);
     lists = ap (λ (y : Listed). put_blocks (names_of_rules R) (k.known ++ (b.name, y.1) ∷ []) y.0 (reached c (drop (i + 1) bs))) (p ∙ put_kept es is k h) ∙ (ap (put_blocks (names_of_rules R) k.known es) (sym (head_reached true h)) ∙ k.lists);
     knows = λ q w.
-      known_more q k.known ((b.name, n) ∷ [])
-      ∙ (ap (λ o. either o (look_up q ((b.name, n) ∷ []))) (k.knows q (ap (λ z. is_listed q (wanted c z)) (head_reached true h) ∙ wanted_on q c b (reached c (drop (i + 1) bs)) w))
-      ∙ (sym (known_more q (numbered (block_names bs) is) ((b.name, n) ∷ [])) ∙ ap (look_up q) (sym (ap (numbered (block_names bs)) m ∙ numbers_more is n k.counts))));
+        known_more q k.known ((b.name, n) ∷ [])
+        ∙ (ap (λ o. either o (look_up q ((b.name, n) ∷ []))) (k.knows q (ap (λ z. is_listed q (wanted c z)) (head_reached true h) ∙ wanted_on q c b (reached c (drop (i + 1) bs)) w))
+        ∙ (sym (known_more q (numbered (block_names bs) is) ((b.name, n) ∷ [])) ∙ ap (look_up q) (sym (ap (numbered (block_names bs)) m ∙ numbers_more is n k.counts))));
     faults = sym (head_faults true h ∙ ap (λ o. first o (faults_behind R c (take (i + 1) (block_names bs)) (drop (i + 1) bs))) f) ∙ k.faults;
   }
 
@@ -221,16 +221,16 @@ module _ (R : List RuleTree) (c : List ℕ) (bs : List BlockTree) (i : ℕ) (b :
     counts = ap length m ∙ (length-append is (n ∷ []) ∙ ap (λ z. z + 1) k.counts);
     lists = ap (λ z. put_blocks (names_of_rules R) k.known z (reached c (drop (i + 1) bs))) p ∙ (ap (put_blocks (names_of_rules R) k.known es) (sym (head_reached false h)) ∙ k.lists);
     knows = λ q w.
-      k.knows q (ap (λ z. is_listed q (wanted c z)) (head_reached false h) ∙ w)
-      ∙ (either_none (look_up q (numbered (block_names bs) is))
-      ∙ (ap (λ t. either (look_up q (numbered (block_names bs) is)) (cond t (Some n) None)) (sym (apart q b.name (wanted c (reached c (drop (i + 1) bs))) w (sym h)))
-      ∙ (sym (known_more q (numbered (block_names bs) is) ((b.name, n) ∷ [])) ∙ ap (look_up q) (sym (ap (numbered (block_names bs)) m ∙ numbers_more is n k.counts)))));
+        k.knows q (ap (λ z. is_listed q (wanted c z)) (head_reached false h) ∙ w)
+        ∙ (either_none (look_up q (numbered (block_names bs) is))
+        ∙ (ap (λ t. either (look_up q (numbered (block_names bs) is)) (cond t (Some n) None)) (sym (apart q b.name (wanted c (reached c (drop (i + 1) bs))) w (sym h)))
+        ∙ (sym (known_more q (numbered (block_names bs) is) ((b.name, n) ∷ [])) ∙ ap (look_up q) (sym (ap (numbered (block_names bs)) m ∙ numbers_more is n k.counts)))));
     faults = sym (head_faults false h) ∙ k.faults;
   }
 
   -- a fault of a reached block is the first
   pub reached_stops : (es : List EntryTree) (is : List ℕ) (f : CompileFault) → Keeps R c bs i es is → Reached true
-    → Tells f (first_of (name_fault R (take i (block_names bs)) (b.name ∷ block_names (drop (i + 1) bs)) b.name) (names_in b.stmt)) → Tells f (faults_behind R c [] bs)
+      → Tells f (first_of (name_fault R (take i (block_names bs)) (b.name ∷ block_names (drop (i + 1) bs)) b.name) (names_in b.stmt)) → Tells f (faults_behind R c [] bs)
   reached_stops es is f k h t = subst (Tells f) (sym (head_faults true h) ∙ k.faults) (tells_first f _ (faults_behind R c (take (i + 1) (block_names bs)) (drop (i + 1) bs)) t)
 
   -- ---- the block at its site
@@ -264,7 +264,7 @@ pub keeps_last : (R : List RuleTree) (c : List ℕ) (bs : List BlockTree) (i : �
 keeps_last R c bs i es is k l =
     let none = drop_all i bs l in (
       ap (λ o. (es, or_else o 0)) (sym (k.knows c (or_left (bytes_eq c c) _ (same_name_itself c))))
-      ∙ ap (λ (y : List EntryTree × List (List ℕ × ℕ)). (y.0, or_else (look_up c y.1) 0)) (ap (λ z. put_blocks (names_of_rules R) k.known es (reached c z)) (sym none) ∙ k.lists),
+          ∙ ap (λ (y : List EntryTree × List (List ℕ × ℕ)). (y.0, or_else (look_up c y.1) 0)) (ap (λ z. put_blocks (names_of_rules R) k.known es (reached c z)) (sym none) ∙ k.lists),
       sym k.faults ∙ ap (faults_behind R c (take i (block_names bs))) none,
     )
 

@@ -56,9 +56,9 @@ stand : (t : List WholeTree) (es : List EntryTree) (n : ℕ) (i : ℕ) (e : Entr
 stand t [] n i e q l h = absurd (cc)
 stand t (a ∷ es) n zero e q l h =
     let k : pick (made_all (t ++ made t a ∷ []) es) (n + 0) ≡ made t a =
-      stays (t ++ made t a ∷ []) es (n + 0) (omega (arith, q, longer t (made t a))) ∙ pick_last t (made t a) (n + 0) (omega (arith, q)) in
+    stays (t ++ made t a ∷ []) es (n + 0) (omega (arith, q, longer t (made t a))) ∙ pick_last t (made t a) (n + 0) (omega (arith, q)) in
     let s : made t a ≡ made (made_all (t ++ made t a ∷ []) es) a =
-      made_agree t (made_all (t ++ made t a ∷ []) es) n a (λ k j. sym (stays (t ++ made t a ∷ []) es k (omega (arith, q, j, longer t (made t a))) ∙ pick_before t (made t a) k (omega (arith, q, j)))) l.0 in
+    made_agree t (made_all (t ++ made t a ∷ []) es) n a (λ k j. sym (stays (t ++ made t a ∷ []) es k (omega (arith, q, j, longer t (made t a))) ∙ pick_before t (made t a) k (omega (arith, q, j)))) l.0 in
     k ∙ (s ∙ ap (made (made_all (t ++ made t a ∷ []) es)) (some_same a e h))
 stand t (a ∷ es) n (suc i) e q l h =
     let r = stand (t ++ made t a ∷ []) es (suc n) i e (omega (arith, q, longer t (made t a))) l.1 h in

@@ -49,7 +49,7 @@ number_at_place n (m ∷ ns) [] = nothing (position (bytes_eq n) (m ∷ ns))
 number_at_place n (m ∷ ns) (i ∷ is) = decide (bytes_eq n m) (number_at_place n ns is) ∙ ap (option_and_then (λ k. slice_get (i ∷ is) k)) (sym (place_more n m ns))
   where
     decide : (b : Bool) → look_up n (numbered ns is) ≡ option_and_then (λ k. slice_get is k) (position (bytes_eq n) ns)
-      → cond b (Some i) (look_up n (numbered ns is)) ≡ option_and_then (λ k. slice_get (i ∷ is) k) (cond b (Some 0) (option_map suc (position (bytes_eq n) ns)))
+        → cond b (Some i) (look_up n (numbered ns is)) ≡ option_and_then (λ k. slice_get (i ∷ is) k) (cond b (Some 0) (option_map suc (position (bytes_eq n) ns)))
     decide true h = refl
     decide false h = h ∙ one_on i is (position (bytes_eq n) ns)
 

@@ -198,20 +198,21 @@ module _ (R : List RuleTree) (c : List ℕ) where
     where
       Rest : Type 0
       Rest = (ks : List (List ℕ × ℕ)) (before : List (List ℕ)) (es : List EntryTree) → faults_behind R c before bs ≡ None → Each (λ (b : BlockTree). ArmsLead b.stmt) bs
-        → ((n : List ℕ) → is_listed n (wanted c (reached c bs)) ≡ true → Behind ks before n) → Each (EntryFor R) es → Each (EntryFor R) (put_blocks (names_of_rules R) ks es (reached c bs)).0
+          → ((n : List ℕ) → is_listed n (wanted c (reached c bs)) ≡ true → Behind ks before n) → Each (EntryFor R) es → Each (EntryFor R) (put_blocks (names_of_rules R) ks es (reached c bs)).0
+
       step : Rest → (t : Bool) → is_listed b.name (wanted c (reached c bs)) ≡ t → first (cond t (block_fault R before b bs) None) (faults_behind R c (before ++ b.name ∷ []) bs) ≡ None
-        → ((n : List ℕ) → is_listed n (wanted c (cond t (b ∷ reached c bs) (reached c bs))) ≡ true → Behind ks before n) → Each (EntryFor R) (put_blocks (names_of_rules R) ks es (cond t (b ∷ reached c bs) (reached c bs))).0
+          → ((n : List ℕ) → is_listed n (wanted c (cond t (b ∷ reached c bs) (reached c bs))) ≡ true → Behind ks before n) → Each (EntryFor R) (put_blocks (names_of_rules R) ks es (cond t (b ∷ reached c bs) (reached c bs))).0
       step go true e h w =
-        let k = first_none (block_fault R before b bs) (faults_behind R c (before ++ b.name ∷ []) bs) h in
-        let x = put (names_of_rules R) ks es b.stmt in
-        let ok = names_ok R ks before (b.name ∷ block_names bs) b.name (names_in b.stmt) k.0 (λ n u. w n (used_wanted n c b (reached c bs) u)) in
-        go (ks ++ (b.name, x.1) ∷ []) (before ++ b.name ∷ []) x.0 k.1 l.1
-        (λ n u m. let i = known_none n b.name x.1 ks m in not_before n b.name before (w n (wanted_on n c b (reached c bs) u) i.0) i.1)
-        (fits R ks es b.stmt f ok l.0)
+          let k = first_none (block_fault R before b bs) (faults_behind R c (before ++ b.name ∷ []) bs) h in
+          let x = put (names_of_rules R) ks es b.stmt in
+          let ok = names_ok R ks before (b.name ∷ block_names bs) b.name (names_in b.stmt) k.0 (λ n u. w n (used_wanted n c b (reached c bs) u)) in
+          go (ks ++ (b.name, x.1) ∷ []) (before ++ b.name ∷ []) x.0 k.1 l.1
+          (λ n u m. let i = known_none n b.name x.1 ks m in not_before n b.name before (w n (wanted_on n c b (reached c bs) u) i.0) i.1)
+          (fits R ks es b.stmt f ok l.0)
       step go false e h w =
-        go ks (before ++ b.name ∷ []) es h l.1
-        (λ n u m. not_before n b.name before (w n u m) (apart n b.name (wanted c (reached c bs)) u e))
-        f
+          go ks (before ++ b.name ∷ []) es h l.1
+          (λ n u m. not_before n b.name before (w n u m) (apart n b.name (wanted c (reached c bs)) u e))
+          f
 
 -- ---- the chosen block is reached, and known in the end
 
@@ -224,15 +225,18 @@ chosen_reached c (b ∷ bs) h = step (bytes_eq c b.name) refl h (chosen_reached 
   where
     Goal : Bool → Type 0
     Goal t = is_listed c (block_names (cond t (b ∷ reached c bs) (reached c bs))) ≡ true
+
     on : (t : Bool) → is_listed c (block_names (reached c bs)) ≡ true → Goal t
     on true k = or_right (bytes_eq c b.name) (is_listed c (block_names (reached c bs))) k
     on false k = k
+
     here : (t : Bool) → bytes_eq c b.name ≡ true → is_listed b.name (wanted c (reached c bs)) ≡ t → Goal t
     here true k e = ap (λ z. z || is_listed c (block_names (reached c bs))) k
     here false k e = absurd (clash (sym e ∙ ap (λ z. z || is_listed b.name (flat_map uses (reached c bs))) (flip c b.name k)))
       where
         clash : false ≡ true → ⊥
         clash k = absurd (cc)
+
     step : (s : Bool) → bytes_eq c b.name ≡ s → (s || is_listed c (block_names bs)) ≡ true → (is_listed c (block_names bs) ≡ true → is_listed c (block_names (reached c bs)) ≡ true) → (t : Bool) → is_listed b.name (wanted c (reached c bs)) ≡ t → Goal t
     step true k h f t e = here t k e
     step false k h f t e = on t (f h)

@@ -27,7 +27,7 @@ module _ (R : List RuleTree) (c : List ℕ) (bs : List BlockTree) where
   chosen_fault e = sym (ap (λ b. cond b (faults_behind R c [] bs) (Some UnknownBlock)) e)
 
   pub chosen_start : (p : ℕ) (is : List ℕ) (es : List EntryTree) (start : ℕ) (x : Listed) → Some p ≡ position (bytes_eq c) (block_names bs) → start ≡ or_else (slice_get is p) 0
-    → (es, or_else (look_up c (numbered (block_names bs) is)) 0) ≡ x → (es, start) ≡ x
+      → (es, or_else (look_up c (numbered (block_names bs) is)) 0) ≡ x → (es, start) ≡ x
   chosen_start p is es start x e h k =
       ap (λ z. (es, z)) (h ∙ (ap (λ o. or_else (option_and_then (λ i. slice_get is i) o) 0) e ∙ ap (λ o. or_else o 0) (sym (number_at_place c (block_names bs) is)))) ∙ k
 

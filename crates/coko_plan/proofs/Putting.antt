@@ -93,13 +93,13 @@ module _ (s : Site) where
     item_stops o f h k = subst (StopTells s.block.now f) (ap (site_faults s) (sym names_dropped) ∙ h) (part_stops (names_in (stmt_tree x)) (names_among (of_stmts (map stmt_tree (drop (i + 1) xs)))) f k)
 
     pub item_more : (p : Pairing) (cur mid new : List EntryTree) (whole n k : ℕ) → (mid, n) ≡ put_at s (stmt_tree x) cur → (new, k) ≡ with_entry mid (pair_entry p whole n)
-      → put_more_at s p k (of_stmts (map stmt_tree (drop (i + 1) xs))) new ≡ put_more_at s p whole (of_stmts (map stmt_tree (drop i xs))) cur
+        → put_more_at s p k (of_stmts (map stmt_tree (drop (i + 1) xs))) new ≡ put_more_at s p whole (of_stmts (map stmt_tree (drop i xs))) cur
     item_more p cur mid new whole n k h j =
         sym (ap (λ ys. put_more_at s p whole (of_stmts (map stmt_tree ys)) cur) dropped
         ∙ ap (λ (y : Listed). put_more (pair_entry p) (names_of_rules (rules_of s)) (known_of s) y (of_stmts (map stmt_tree (drop (i + 1) xs)))) (sym (j ∙ ap (λ (y : Listed). with_entry y.0 (pair_entry p whole y.1)) h)))
 
     pub item_all : (cur mid : List EntryTree) (ns new : List ℕ) (n : ℕ) (r : List EntryTree × List ℕ) → ((put_all_at s (of_stmts (map stmt_tree (drop i xs))) cur).0, ns ++ (put_all_at s (of_stmts (map stmt_tree (drop i xs))) cur).1) ≡ r
-      → (mid, n) ≡ put_at s (stmt_tree x) cur → new ≡ ns ++ n ∷ [] → ((put_all_at s (of_stmts (map stmt_tree (drop (i + 1) xs))) mid).0, new ++ (put_all_at s (of_stmts (map stmt_tree (drop (i + 1) xs))) mid).1) ≡ r
+        → (mid, n) ≡ put_at s (stmt_tree x) cur → new ≡ ns ++ n ∷ [] → ((put_all_at s (of_stmts (map stmt_tree (drop (i + 1) xs))) mid).0, new ++ (put_all_at s (of_stmts (map stmt_tree (drop (i + 1) xs))) mid).1) ≡ r
     item_all cur mid ns new n r h j k =
         let rest = λ (es : List EntryTree). put_all_at s (of_stmts (map stmt_tree (drop (i + 1) xs))) es in
         ap (λ ms. ((rest mid).0, ms ++ (rest mid).1)) k
@@ -123,7 +123,7 @@ module _ (s : Site) where
     arm_stops o f h k = subst (StopTells s.block.now f) (ap (site_faults s) (sym arm_names) ∙ h) (part_stops (names_in (stmt_tree x.1)) (names_in_arms (of_arms (map arm_entry (drop (i + 1) xs)))) f k)
 
     pub arm_all : (cur mid : List EntryTree) (ns new : List (List ℕ × ℕ)) (n : ℕ) (r : List EntryTree × List (List ℕ × ℕ)) → ((put_arms_at s (of_arms (map arm_entry (drop i xs))) cur).0, ns ++ (put_arms_at s (of_arms (map arm_entry (drop i xs))) cur).1) ≡ r
-      → (mid, n) ≡ put_at s (stmt_tree x.1) cur → new ≡ ns ++ (x.0, n) ∷ [] → ((put_arms_at s (of_arms (map arm_entry (drop (i + 1) xs))) mid).0, new ++ (put_arms_at s (of_arms (map arm_entry (drop (i + 1) xs))) mid).1) ≡ r
+        → (mid, n) ≡ put_at s (stmt_tree x.1) cur → new ≡ ns ++ (x.0, n) ∷ [] → ((put_arms_at s (of_arms (map arm_entry (drop (i + 1) xs))) mid).0, new ++ (put_arms_at s (of_arms (map arm_entry (drop (i + 1) xs))) mid).1) ≡ r
     arm_all cur mid ns new n r h j k =
         let rest = λ (es : List EntryTree). put_arms_at s (of_arms (map arm_entry (drop (i + 1) xs))) es in
         ap (λ ms. ((rest mid).0, ms ++ (rest mid).1)) k
@@ -147,7 +147,7 @@ pub left_puts : (s : Site) (p : Pairing) (all others : List Stmt) (x : Stmt) (ol
 left_puts s p all others x old mid new n r e h k m = subst (λ ys. Puts (λ k. k) s (names_among (of_stmts (map stmt_tree ys))) (put_left_at s p (of_stmts (map stmt_tree ys))) old new r) (sym e) (step r m)
   where
     step : (q : Result ℕ Stop) → Puts (λ k. k) s (names_among (of_stmts (map stmt_tree others))) (put_more_at s p n (of_stmts (map stmt_tree others))) mid new q
-      → Puts (λ k. k) s (names_in (stmt_tree x) ++ names_among (of_stmts (map stmt_tree others))) (put_left_at s p (MoreStmts (stmt_tree x) (of_stmts (map stmt_tree others)))) old new q
+        → Puts (λ k. k) s (names_in (stmt_tree x) ++ names_among (of_stmts (map stmt_tree others))) (put_left_at s p (MoreStmts (stmt_tree x) (of_stmts (map stmt_tree others)))) old new q
     step (Ok i) g = (
       g.0 ∙ ap (λ (y : Listed). put_more (pair_entry p) (names_of_rules (rules_of s)) (known_of s) y (of_stmts (map stmt_tree others))) h,
       sym (part_passes s (names_in (stmt_tree x)) (names_among (of_stmts (map stmt_tree others))) k) ∙ g.1,

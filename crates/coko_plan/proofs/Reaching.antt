@@ -30,9 +30,9 @@ lists_more c b bs w v t e h k = λ m. step m t (is_listed b.name (wanted c (reac
   where
     step : (m : List ℕ) (t r : Bool) → t ≡ r → is_listed m v ≡ (is_listed m w || is_listed m (cond t (uses b) [])) → is_listed m v ≡ is_listed m (wanted c (cond r (b ∷ reached c bs) (reached c bs)))
     step m true true i j =
-      j
-      ∙ (ap (λ z. z || is_listed m (uses b)) (h m)
-      ∙ (or_swap (bytes_eq m c) (is_listed m (uses b)) (is_listed m (flat_map uses (reached c bs))) ∙ sym (wanted_parts m c b (reached c bs))))
+        j
+        ∙ (ap (λ z. z || is_listed m (uses b)) (h m)
+        ∙ (or_swap (bytes_eq m c) (is_listed m (uses b)) (is_listed m (flat_map uses (reached c bs))) ∙ sym (wanted_parts m c b (reached c bs))))
     step m false false i j = j ∙ (or_false (is_listed m w) ∙ h m)
     step m true false i j = absurd (cc)
     step m false true i j = absurd (cc)

@@ -98,13 +98,7 @@ fn fires(site: &Site, place: usize, rev: bool) -> bool
     ensures { result ≡ fires_at (slice_get (rules_of site.now) place) rev }
 {
     match site.fires.get(place) {
-        Some((forwards, backwards)) => {
-            if rev {
-                *backwards
-            } else {
-                *forwards
-            }
-        }
+        Some((forwards, backwards)) => { if rev { *backwards } else { *forwards } }
         None => false,
     }
 }

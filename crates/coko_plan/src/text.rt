@@ -112,7 +112,12 @@ fn push_fire(out: &mut Vec<u8>, rules: &RuleTable, rule: usize, rev: bool) -> Re
     push_rule(out, rules, rule)
 }
 
-fn push_given(alloc: Global, out: &mut Vec<u8>, pattern: &Term, arms: &PlanArms) -> Result<(), Memory>
+fn push_given(
+    alloc: Global,
+    out: &mut Vec<u8>,
+    pattern: &Term,
+    arms: &PlanArms,
+) -> Result<(), Memory>
     ensures { OnOk result (out.new.items ≡ out.old.items
         ++ (codes "GIVEN " ++ term_spelling (term_tree pattern.now) ++ codes " DO " ++ arms_spelling arms.now ++ codes " END")) }
 {
@@ -124,7 +129,12 @@ fn push_given(alloc: Global, out: &mut Vec<u8>, pattern: &Term, arms: &PlanArms)
     push_bytes(out, b" END")
 }
 
-fn push_entry(alloc: Global, out: &mut Vec<u8>, rules: &RuleTable, entry: &Entry) -> Result<(), Memory>
+fn push_entry(
+    alloc: Global,
+    out: &mut Vec<u8>,
+    rules: &RuleTable,
+    entry: &Entry,
+) -> Result<(), Memory>
     ensures { OnOk result (out.new.items
         ≡ out.old.items ++ entry_spelling (names_of_rules (map rule_tree rules.now)) (entry_tree entry.now)) }
 {
@@ -143,7 +153,13 @@ fn push_entry(alloc: Global, out: &mut Vec<u8>, rules: &RuleTable, entry: &Entry
 }
 
 /// Adds the line of an entry of a number.
-fn push_line(alloc: Global, out: &mut Vec<u8>, rules: &RuleTable, n: usize, entry: &Entry) -> Result<(), Memory>
+fn push_line(
+    alloc: Global,
+    out: &mut Vec<u8>,
+    rules: &RuleTable,
+    n: usize,
+    entry: &Entry,
+) -> Result<(), Memory>
     ensures { OnOk result (out.new.items ≡ out.old.items ++ (decimal n ++ codes ": "
         ++ entry_spelling (names_of_rules (map rule_tree rules.now)) (entry_tree entry.now) ++ codes "\n")) }
 {
@@ -154,7 +170,12 @@ fn push_line(alloc: Global, out: &mut Vec<u8>, rules: &RuleTable, n: usize, entr
 }
 
 /// Adds the lines of all entries.
-fn push_lines(alloc: Global, out: &mut Vec<u8>, plan: &Plan, rules: &RuleTable) -> Result<(), Memory>
+fn push_lines(
+    alloc: Global,
+    out: &mut Vec<u8>,
+    plan: &Plan,
+    rules: &RuleTable,
+) -> Result<(), Memory>
     ensures { OnOk result (out.new.items
         ≡ out.old.items ++ lines_from 0 (names_of_rules (map rule_tree rules.now)) (entries_of plan.now)) }
 {

@@ -28,7 +28,7 @@ returns-in_err-number c =
     let e : block_tree x ≡ get_or bs n (block_tree x) = sym (seen block_tree c.args.blocks.now bs n x refl c.loop-n-test.true c.index-blocks-n.is) in
     let h = ap (λ z. get_or z n false) (c.as_slice-reached.ensures.value ∙ c.in_ok-marks.ensures) ∙ mark_at chosen bs n (block_tree x) false l e in
     let k : Tells c.in_err-number.field-0.0 (faults_behind R chosen [] bs) =
-      block_stops R chosen bs n (block_tree x) l e (record { rules = c.args.rules; fires = c.as_slice.result; names = c.args.names; numbers = c.as_slice-in-loop-n.result; block = record { ref_ptr = c.args.chosen.ref_ptr; now = x.name } }) c.loop-n.numbers.items refl c.requires.names c.as_slice-in-loop-n.ensures.value refl (get_or c.as_slice-reached.result.now n false) (map entry_tree c.loop-n.entries.items) c.in_err-number.field-0.0 h c.loop-n.invariant c.in_err-number.ensures in
+    block_stops R chosen bs n (block_tree x) l e (record { rules = c.args.rules; fires = c.as_slice.result; names = c.args.names; numbers = c.as_slice-in-loop-n.result; block = record { ref_ptr = c.args.chosen.ref_ptr; now = x.name } }) c.loop-n.numbers.items refl c.requires.names c.as_slice-in-loop-n.ensures.value refl (get_or c.as_slice-reached.result.now n false) (map entry_tree c.loop-n.entries.items) c.in_err-number.field-0.0 h c.loop-n.invariant c.in_err-number.ensures in
     search rules
 
 pub loop-n-preserved : goal.loop-n-preserved

@@ -35,19 +35,23 @@ decreases-list_arms l = 2 * arm_entries_weight (map arm_entry l.arms.now)
 abbrev pub invariant-list_more-loop-part : goal.invariant-list_more-loop-part
 invariant-list_more-loop-part l =
     (put_more_at l.site l.pairing l.whole (of_stmts (map stmt_tree (drop l.part-index l.parts))) (map entry_tree l.entries.items)
-      ≡ put_more_at l.site l.pairing l.first (of_stmts (map stmt_tree l.parts)) (map entry_tree l.initial.entries.items)) ×
+    ≡ put_more_at l.site l.pairing l.first (of_stmts (map stmt_tree l.parts)) (map entry_tree l.initial.entries.items)) ×
     (site_faults l.site (names_among (of_stmts (map stmt_tree (drop l.part-index l.parts)))) ≡ site_faults l.site (names_among (of_stmts (map stmt_tree l.parts))))
 
 abbrev pub invariant-list_all-loop-part : goal.invariant-list_all-loop-part
 invariant-list_all-loop-part l =
-    (((put_all_at l.site (of_stmts (map stmt_tree (drop l.part-index l.parts))) (map entry_tree l.entries.items)).0,
-      l.numbers.items ++ (put_all_at l.site (of_stmts (map stmt_tree (drop l.part-index l.parts))) (map entry_tree l.entries.items)).1)
-      ≡ put_all_at l.site (of_stmts (map stmt_tree l.parts)) (map entry_tree l.initial.entries.items)) ×
+    ((
+      (put_all_at l.site (of_stmts (map stmt_tree (drop l.part-index l.parts))) (map entry_tree l.entries.items)).0,
+      l.numbers.items ++ (put_all_at l.site (of_stmts (map stmt_tree (drop l.part-index l.parts))) (map entry_tree l.entries.items)).1,
+    )
+    ≡ put_all_at l.site (of_stmts (map stmt_tree l.parts)) (map entry_tree l.initial.entries.items)) ×
     (site_faults l.site (names_among (of_stmts (map stmt_tree (drop l.part-index l.parts)))) ≡ site_faults l.site (names_among (of_stmts (map stmt_tree l.parts))))
 
 abbrev pub invariant-list_arms-loop-path : goal.invariant-list_arms-loop-path
 invariant-list_arms-loop-path l =
-    (((put_arms_at l.site (of_arms (map arm_entry (drop l.path-index l.arms))) (map entry_tree l.entries.items)).0,
-      l.listed ++ (put_arms_at l.site (of_arms (map arm_entry (drop l.path-index l.arms))) (map entry_tree l.entries.items)).1)
-      ≡ put_arms_at l.site (of_arms (map arm_entry l.arms)) (map entry_tree l.initial.entries.items)) ×
+    ((
+      (put_arms_at l.site (of_arms (map arm_entry (drop l.path-index l.arms))) (map entry_tree l.entries.items)).0,
+      l.listed ++ (put_arms_at l.site (of_arms (map arm_entry (drop l.path-index l.arms))) (map entry_tree l.entries.items)).1,
+    )
+    ≡ put_arms_at l.site (of_arms (map arm_entry l.arms)) (map entry_tree l.initial.entries.items)) ×
     (site_faults l.site (names_in_arms (of_arms (map arm_entry (drop l.path-index l.arms)))) ≡ site_faults l.site (names_in_arms (of_arms (map arm_entry l.arms))))

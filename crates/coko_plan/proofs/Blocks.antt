@@ -1,5 +1,5 @@
 -- How the listing of a file is put together of those of its blocks, where the numbers of all blocks before are kept.
-use Rattle.std.proofs.Common.{◌≡◌, ℕ, zero, suc, ◌+◌, ◌-◌, ◌<◌, ◌≤◌, Bool, true, false, cond, ◌||◌, List, [], ◌∷◌, ◌++◌, Option, Some, None, length, length-append, get_or, map, take, drop, refl, sym, ap, ap₂, ◌∙◌, subst, arith}
+use Rattle.std.proofs.Common.{◌≡◌, ℕ, zero, suc, ◌+◌, ◌<◌, ◌≤◌, Bool, true, false, cond, ◌||◌, List, [], ◌∷◌, ◌++◌, Option, Some, None, length, length-append, get_or, map, take, drop, refl, sym, ap, ap₂, ◌∙◌, subst, arith}
 use Rattle.std.specs.Str.{bytes_eq}
 use Rattle.std.proofs.lemmas.List.{take_more, drop_more, drop_all}
 use Rattle.kola_core.specs.NameLists.{is_listed}
@@ -10,8 +10,8 @@ use Rattle.coko_block.specs.Statements.{StmtTree, SFire, SSkip, SFail, SSeq, STh
 use Rattle.coko_block.specs.StmtViews.{block_tree}
 use Rattle.coko_block.specs.declared.stmt.Block.{Block}
 use Rattle.coko_block.specs.WellFormed.{block_names}
-use Rattle.coko_plan.specs.Entries.{EntryTree, ESkip, ESeq, EThen, EElse, EBu, ETd, ERepeat, EGiven}
-use Rattle.coko_plan.specs.Naming.{names_in, names_among, names_in_arms, forward, uses, wanted, reached}
+use Rattle.coko_plan.specs.Entries.{EntryTree, ESeq, EThen, EElse, EBu, ETd, ERepeat, EGiven}
+use Rattle.coko_plan.specs.Naming.{names_in, names_among, names_in_arms, forward, wanted, reached}
 use Rattle.coko_plan.specs.Faults.{Fault, first, first_of, names_of_rules, name_fault, block_fault, faults_behind}
 use Rattle.coko_plan.specs.Listing.{or_else, place_of, earlier, Listed, with_entry, put_name, put, put_left, put_more, put_right, put_rest, put_arms, put_blocks, listing}
 use Rattle.coko_plan.specs.Compiling.{Tells}

@@ -1,5 +1,5 @@
 -- Names that are found at their places, among blocks and among rules.
-use Rattle.std.proofs.Common.{◌≡◌, ℕ, zero, suc, ◌+◌, Bool, true, false, not, cond, ◌||◌, List, [], ◌∷◌, Option, Some, None, length, map, take, drop, is_some, option_map, option_and_then, position, slice_get, nat_lt, leb, ◌<◌, subst, refl, sym, ap, ap₂, ◌∙◌, arith}
+use Rattle.std.proofs.Common.{◌≡◌, ℕ, zero, suc, ◌+◌, Bool, true, false, not, cond, ◌||◌, List, [], ◌∷◌, Option, Some, None, length, map, take, drop, is_some, option_map, option_and_then, position, slice_get, nat_lt, leb, ◌<◌, subst, refl, sym, ap, ◌∙◌, arith}
 use Rattle.std.specs.List.{list_any, position_or_len}
 use Rattle.std.specs.Str.{bytes_eq}
 use Rattle.std.proofs.lemmas.Bool.Decides.{nat_tests}
@@ -13,7 +13,7 @@ use Rattle.kola_rule.specs.RuleViews.{rule_tree}
 use Rattle.kola_rule.specs.Tables.{rule_names}
 use Rattle.kola_rule.specs.declared.rule.Rule.{Rule}
 use Rattle.coko_plan.specs.Listing.{or_else, place_of, earlier}
-use Rattle.coko_plan.specs.Faults.{Fault, CannotFire, names_of_rules, no_rule, rule_named, rule_fault, name_fault}
+use Rattle.coko_plan.specs.Faults.{CannotFire, names_of_rules, no_rule, rule_named, rule_fault, name_fault}
 use Rattle.coko_plan.specs.Working.Seen.{fires_at}
 use Rattle.coko_plan.specs.Working.Sites.{numbered}
 

@@ -1,7 +1,7 @@
 -- The listing of a block without a fault is a plan for the table.
-use Rattle.std.proofs.Common.{◌≡◌, ℕ, zero, suc, ◌+◌, ◌<◌, ◌≤◌, Bool, true, false, not, cond, ◌||◌, ◌&&◌, refl, sym, ap, ap₂, ◌∙◌, subst, List, [], ◌∷◌, ◌++◌, length, map, Option, Some, None, position, ◌⊎◌, inl, inr}
+use Rattle.std.proofs.Common.{◌≡◌, ℕ, Bool, true, false, not, cond, ◌||◌, ◌&&◌, refl, sym, ap, ap₂, ◌∙◌, List, [], ◌∷◌, ◌++◌, Option, Some, None, position, ◌⊎◌, inl, inr}
 use Rattle.std.specs.Prelude.{slice_get}
-use Rattle.std.specs.List.{list_any, flat_map}
+use Rattle.std.specs.List.{flat_map}
 use Rattle.std.specs.Str.{bytes_eq}
 use Rattle.kola_core.specs.NameLists.{is_listed}
 use Rattle.kola_values.specs.Databases.{look_up}
@@ -12,11 +12,11 @@ use Rattle.kola_term.proofs.Introductions.{same_name_itself}
 use Rattle.kola_rule.specs.Rules.{RuleTree}
 use Rattle.coko_block.specs.Statements.{StmtTree, SFire, SSkip, SFail, SSeq, SThen, SElse, SBu, STd, SRepeat, SGiven, StmtTrees, NoStmts, MoreStmts, ArmTrees, NoArms, MoreArms, BlockTree}
 use Rattle.coko_block.specs.WellFormed.{block_names, LeadsToVariable, ArmsLead, AllLead, LeadIn, BlocksOk}
-use Rattle.coko_plan.specs.Entries.{EntryTree, EFire, ESkip, EFail, ESeq, EThen, EElse, EBu, ETd, ERepeat, EGiven, stands_for}
+use Rattle.coko_plan.specs.Entries.{EntryTree, EFire, ESkip, EFail, ESeq, EThen, EElse, EBu, ETd, ERepeat, EGiven}
 use Rattle.coko_plan.specs.Variables.{can_fire}
-use Rattle.coko_plan.specs.Plans.{Fires, EntryFor, PlanFor}
+use Rattle.coko_plan.specs.Plans.{Fires, EntryFor}
 use Rattle.coko_plan.specs.Naming.{names_in, names_among, names_in_arms, forward, uses, wanted, reached}
-use Rattle.coko_plan.specs.Listing.{or_else, place_of, earlier, wholes, whole_of, Listed, with_entry, put_name, put, put_left, put_more, put_right, put_rest, put_arms, put_blocks, listing}
+use Rattle.coko_plan.specs.Listing.{or_else, place_of, earlier, wholes, Listed, with_entry, put_name, put, put_left, put_more, put_right, put_rest, put_arms, put_blocks, listing}
 use Rattle.coko_plan.specs.Faults.{Fault, UnknownBlock, first, first_of, names_of_rules, rule_named, rule_fault, name_fault, block_fault, faults_behind, fault_of}
 use Rattle.coko_plan.specs.Compiling.{IsPlanOf, PlanOrFault}
 use Rattle.coko_plan.proofs.Covering.{any_append, fires_covers}

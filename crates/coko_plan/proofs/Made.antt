@@ -1,5 +1,5 @@
 -- The plan that is made of a listing.
-use Rattle.std.proofs.Common.{◌≡◌, ℕ, ◌<◌, true, false, cond, List, [], Option, Some, None, length, map, is_some, option_and_then, position, slice_get, refl, sym, ap, ◌∙◌, subst, arith}
+use Rattle.std.proofs.Common.{◌≡◌, ℕ, true, cond, List, [], Some, None, is_some, option_and_then, position, slice_get, sym, ap, ◌∙◌, subst}
 use Rattle.std.specs.Str.{bytes_eq}
 use Rattle.kola_core.specs.NameLists.{is_listed}
 use Rattle.kola_values.specs.Databases.{look_up}

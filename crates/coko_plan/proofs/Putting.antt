@@ -1,9 +1,9 @@
 -- How the listing of a statement is put together of those of its parts.
-use Rattle.std.proofs.Common.{◌≡◌, ℕ, zero, suc, Bool, ◌+◌, ◌-◌, ◌<◌, ◌≤◌, List, [], ◌∷◌, ◌++◌, Option, Some, None, length, get_or, map, drop, length-drop, append_assoc, append-nil, refl, sym, ap, ap₂, ◌∙◌, subst, arith}
+use Rattle.std.proofs.Common.{◌≡◌, ℕ, zero, suc, Bool, ◌+◌, ◌-◌, ◌<◌, List, [], ◌∷◌, ◌++◌, Option, Some, None, length, get_or, map, drop, length-drop, append_assoc, refl, sym, ap, ◌∙◌, subst, arith}
 use Rattle.std.proofs.Math.Seq.{drop-length}
 use Rattle.std.specs.Prelude.{Result, Ok, Err}
 use Rattle.std.proofs.lemmas.List.{drop_more}
-use Rattle.coko_block.specs.Statements.{StmtTree, StmtTrees, NoStmts, MoreStmts, of_stmts, of_arms}
+use Rattle.coko_block.specs.Statements.{StmtTrees, NoStmts, MoreStmts, of_stmts, of_arms}
 use Rattle.coko_block.specs.StmtViews.{stmt_tree, arm_entry}
 use Rattle.coko_block.specs.declared.stmt.Stmt.{Stmt}
 use Rattle.coko_plan.specs.Entries.{EntryTree, EThen}

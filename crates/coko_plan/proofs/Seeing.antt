@@ -1,6 +1,6 @@
 -- Tables of variables: what names and variables they have after others are added, and the variables of a node by those of its children.
 use Rattle.std.proofs.Common.{◌≡◌, ℕ, Bool, true, false, cond, ◌||◌, ◌&&◌, List, [], ◌∷◌, ◌++◌, append-nil, refl, sym, ap, ap₂, ◌∙◌}
-use Rattle.std.specs.List.{list_any, list_all, flat_map}
+use Rattle.std.specs.List.{list_all, flat_map}
 use Rattle.std.specs.Str.{bytes_eq}
 use Rattle.std.proofs.lemmas.List.Folds.{list_all-append}
 use Rattle.kola_core.specs.NameLists.{is_listed, with_name}
@@ -9,7 +9,7 @@ use Rattle.kola_term.specs.Places.{children}
 use Rattle.kola_term.proofs.Inversions.{same_name-equal}
 use Rattle.kola_term.proofs.Introductions.{same_name_itself}
 use Rattle.coko_plan.specs.Variables.{variables, fun_variables, pred_variables, const_variables, is_among, same_variable}
-use Rattle.coko_plan.specs.Working.Seen.{AddsName, AddsNames, knows, has_seen, Sees, own}
+use Rattle.coko_plan.specs.Working.Seen.{AddsName, knows, has_seen, Sees, own}
 use Rattle.coko_plan.specs.declared.firing.Variables.{Variables}
 use Rattle.coko_plan.proofs.Covering.{any_append, or_assoc, or_false}
 

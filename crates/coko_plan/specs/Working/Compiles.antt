@@ -1,5 +1,5 @@
 -- What listing does with the blocks of a file, one by one and all.
-use Rattle.std.specs.Prelude.{◌≡◌, ℕ, Bool, true, false, List, [], Some, None, Option, Result, Ok, Err, map}
+use Rattle.std.specs.Prelude.{◌≡◌, ℕ, Bool, true, false, List, [], None, Option, Result, Ok, Err, map}
 use Rattle.kola_values.specs.Databases.{look_up}
 use Rattle.kola_rule.specs.Rules.{RuleTree}
 use Rattle.coko_block.specs.Statements.{StmtTree, BlockTree}

@@ -1,5 +1,5 @@
 -- What listing does at a site: the entries behind those that stood, or what stops it.
-use Rattle.std.specs.Prelude.{◌≡◌, ℕ, Bool, List, Some, None, Result, Ok, Err, map}
+use Rattle.std.specs.Prelude.{◌≡◌, ℕ, Bool, List, None, Result, Ok, Err, map}
 use Rattle.coko_block.specs.Statements.{StmtTree, StmtTrees, ArmTrees}
 use Rattle.coko_plan.specs.Entries.{EntryTree}
 use Rattle.coko_plan.specs.EntryViews.{entry_tree}

@@ -3,7 +3,7 @@ use Rattle.std.specs.Prelude.{◌≡◌, ℕ, Bool, true, List, [], ◌∷◌, O
 use Rattle.kola_schema.specs.Schemas.{are_distinct}
 use Rattle.kola_rule.specs.Rules.{RuleTree}
 use Rattle.kola_rule.specs.RuleViews.{rule_tree}
-use Rattle.coko_plan.specs.Faults.{Fault, UnknownRule, LaterBlock, CannotFire, names_of_rules, name_fault, first_of}
+use Rattle.coko_plan.specs.Faults.{Fault, UnknownRule, LaterBlock, CannotFire, name_fault, first_of}
 use Rattle.coko_plan.specs.Working.Seen.{directions}
 use Rattle.coko_plan.specs.declared.site.Site.{Site}
 use Rattle.coko_plan.specs.declared.site.Meaning.{Meaning}

@@ -1,4 +1,4 @@
-use Rattle.std.proofs.Common.{map, length, ◌-◌, ◌<◌, ap, ap₂, ◌∙◌, arith}
+use Rattle.std.proofs.Common.{map, length, ◌-◌, ◌<◌, arith}
 use Rattle.std.proofs.lemmas.Bool.Decides.{nat_tests}
 use Rattle.coko_plan.specs.EntryViews.{entry_tree}
 use Rattle.coko_plan.proofs.Putting.{group_last, group_on, same_item}

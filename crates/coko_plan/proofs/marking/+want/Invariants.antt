@@ -1,4 +1,4 @@
-use Rattle.std.proofs.Common.{◌≡◌, map, take}
+use Rattle.std.proofs.Common.{map, take}
 use Rattle.coko_block.specs.Statements.{of_stmts, of_arms}
 use Rattle.coko_block.specs.StmtViews.{stmt_tree, arm_entry}
 use Rattle.coko_block.specs.Models.Weights.{weight, entries_weight, arm_entries_weight}

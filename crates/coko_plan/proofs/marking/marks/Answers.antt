@@ -1,4 +1,4 @@
-use Rattle.std.proofs.Common.{◌≡◌, ◌-◌, map, drop, reverse, sym, subst, arith}
+use Rattle.std.proofs.Common.{◌≡◌, map, drop, reverse, sym, subst, arith}
 use Rattle.coko_block.specs.StmtViews.{block_tree}
 use Rattle.coko_plan.specs.Naming.{wanted, reached}
 use Rattle.coko_plan.specs.Working.Marks.{marks}

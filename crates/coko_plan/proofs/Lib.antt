@@ -11,3 +11,4 @@ mod Putting
 mod Blocks
 mod Made
 mod Writing
+mod PlanExamples

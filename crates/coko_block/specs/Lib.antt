@@ -3,3 +3,4 @@ pub mod StmtViews
 pub mod Models
 pub mod Files
 pub mod FileViews
+pub mod WellFormed

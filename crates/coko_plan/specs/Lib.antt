@@ -1,0 +1,11 @@
+pub mod Wholes
+pub mod Entries
+pub mod EntryViews
+pub mod Variables
+pub mod Plans
+pub mod Naming
+pub mod Listing
+pub mod Faults
+pub mod Compiling
+pub mod Spelling
+pub mod Working

@@ -53,6 +53,12 @@ count_in (Back k w m l fs) = l.count
 count_in (Over w y m l) = l.count
 count_in (Ended k w m l) = l.count
 
+abbrev pub whole_in : Conf → TermTree
+whole_in (Going j w q m l fs) = w
+whole_in (Back k w m l fs) = w
+whole_in (Over w y m l) = w
+whole_in (Ended k w m l) = w
+
 abbrev pub frames_in : Conf → List Fr
 frames_in (Going j w q m l fs) = fs
 frames_in (Back k w m l fs) = fs
@@ -86,10 +92,12 @@ pub record Leads (G : World) (a b : Conf) : Type 0 where
   pub falls : Falls a b
   pub counts : count_in b + left_in b ≤ count_in a + left_in a
   pub apart : Apart (frames_in a) → Apart (frames_in b)
+  pub fits : G.fit (whole_in a) → G.fit (whole_in b)
 
 -- what moves up to the next step do
 pub record Steps (G : World) (a b : Conf) : Type 0 where
   pub moves : Moves G a b
   pub counts : count_in b + left_in b ≤ count_in a + left_in a
   pub apart : Apart (frames_in a) → Apart (frames_in b)
+  pub fits : G.fit (whole_in a) → G.fit (whole_in b)
   pub ahead : (left_in b < left_in a) ⊎ IsEnd b

@@ -1,7 +1,7 @@
 //! Plans: the entries that list a block, and the one with which they start.
 
-ghost use Rattle.std.specs.Prelude.{◌≡◌, ◌<◌, ◌≤◌, [], ◌∷◌, length, slice_get, IfOk, IfSome, IfNone};
-ghost use Rattle.std.specs.Option.{option_map};
+ghost use Rattle.std.specs.Prelude.{◌≡◌, ◌<◌, ◌≤◌, List, [], ◌∷◌, map, length, slice_get, IfOk, IfSome, IfNone};
+ghost use Rattle.std.specs.Option.{option_copied, option_map};
 ghost use Rattle.kola_rule.specs.Rules.{RuleTree};
 ghost use Rattle.coko_plan.specs.Wholes.{WSkip};
 ghost use Rattle.coko_plan.specs.Entries.{ESkip, AllLower, stands_for, made, table};
@@ -57,6 +57,12 @@ impl Plan {
         let _entries = &self.entries;
     }
 
+    fn at(&self, n: usize) -> Option<&Entry>
+        ensures { option_copied result ≡ slice_get self.now.0 n }
+    {
+        self.entries.get(n)
+    }
+
     /// The entry of a number, counted from 0; `None` exactly past the last entry.
     pub fn entry(&self, n: usize) -> Option<&Entry>
         ensures value { option_map entry_at result ≡ slice_get (entries_of self.now) n }
@@ -64,7 +70,8 @@ impl Plan {
             ≡ made (table (entries_of self.now)) (entry_tree e.now)) }
         ensures past { IfNone result (length (entries_of self.now) ≤ n) }
     {
-        self.entries.get(n)
+        self.well_formed();
+        self.at(n)
     }
 
     /// The number of the entry that is the whole.

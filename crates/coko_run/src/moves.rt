@@ -7,18 +7,18 @@ ghost use Rattle.kola_term.specs.TermView.{term_tree};
 ghost use Rattle.kola_rule.specs.Rules.{RuleTree};
 ghost use Rattle.kola_rule.specs.RuleViews.{rule_tree};
 ghost use Rattle.kola_match.specs.RuleOk.{RuleOk};
-ghost use Rattle.coko_plan.specs.Wholes.{WFire, NoWholes, MoreWholes};
+ghost use Rattle.coko_plan.specs.Wholes.{WFire, WGiven, WholeArms, NoWholes, MoreWholes};
 ghost use Rattle.coko_plan.specs.Entries.{pick, table};
 ghost use Rattle.coko_plan.specs.EntryViews.{entry_tree, entries_of};
 ghost use Rattle.coko_plan.specs.Plans.{EntryFor};
-ghost use Rattle.coko_run.specs.Outcomes.{Fired};
-ghost use Rattle.coko_run.specs.Runs.{Do, Walk};
+ghost use Rattle.coko_run.specs.Outcomes.{Fired, each};
+ghost use Rattle.coko_run.specs.Runs.{Do, Step, Walk};
 ghost use Rattle.coko_run.specs.Notes.{noted};
-ghost use Rattle.coko_run.specs.Moves.{Going, FAfter};
+ghost use Rattle.coko_run.specs.Moves.{Going, Back, FAfter};
 ghost use Rattle.coko_run.specs.Weights.{Leads};
 ghost use Rattle.coko_run.specs.Firing.{world, FitsUnit};
-ghost use Rattle.coko_run.specs.Fires.{MayFire, arm_list};
-ghost use Rattle.coko_run.specs.Views.{job_of, when_of, frames, notes, arms_of, idle_of, is_end, conf, before};
+ghost use Rattle.coko_run.specs.Fires.{MayFire, Stepped, arm_list};
+ghost use Rattle.coko_run.specs.Views.{job_of, when_of, frames, notes, arms_of, idle_of, is_end, counted, conf, before};
 
 use crate::fire::{Shooting, fire};
 use crate::machine::{Frame, Held, Job, Log, Now, Shot, When};
@@ -28,6 +28,7 @@ use coko_plan::{Entry, Plan, PlanArms};
 use kola_core::{Items, Memory, Path};
 use kola_rule::RuleTable;
 use kola_schema::Schema;
+use kola_term::Term;
 use std::alloc::Global;
 
 /// Notes a firing.
@@ -248,5 +249,156 @@ fn acting(
         Entry::Td(a) => stepping(alloc, plan, m, When::Always, Job::Kids(i), *a, path),
         Entry::Repeat(a) => stepping(alloc, plan, m, When::OnOk, Job::Do(i), *a, path),
         Entry::Given(pattern, _) => Ok(given(plan, m, i, pattern, path)),
+    }
+}
+
+/// Takes a step, and goes on with a first statement.
+fn stepping(
+    alloc: Global,
+    plan: &Plan,
+    m: &mut Held,
+    when: When,
+    second: Job,
+    i: usize,
+    path: Path,
+) -> Result<Now, Memory>
+    ensures { IfOk result (λ s. Stepped (table (entries_of plan.now)) m.old (when_of when)
+        (job_of (table (entries_of plan.now)) second) (pick (table (entries_of plan.now)) i) path
+        (conf (table (entries_of plan.now)) m.new s)) }
+{
+    if m.left == 0 {
+        return Ok(Now::Spent);
+    }
+    m.left -= 1;
+    first_of(alloc, plan, m, when, second, Job::Do(i), path)
+}
+
+/// Goes on with the children that are left.
+fn child(
+    alloc: Global,
+    plan: &Plan,
+    m: &mut Held,
+    i: usize,
+    last: u8,
+    left: u8,
+    path: Path,
+) -> Result<Now, Memory>
+    ensures { IfOk result (λ s. (S : Classes) (A : List RuleTree) → Leads (world S A)
+        (before (table (entries_of plan.now)) m.old
+        (Walk (each (pick (table (entries_of plan.now)) i) (counted last left))) path)
+        (conf (table (entries_of plan.now)) m.new s)) }
+{
+    if left == 0 {
+        return Ok(Now::Back(false));
+    }
+    let left = left - 1;
+    let number = last.saturating_sub(left);
+    first_below(
+        alloc,
+        plan,
+        m,
+        Job::Child(i, last, left),
+        Job::Do(i),
+        path,
+        &[number],
+    )
+}
+
+/// Takes a step, and goes on with the statement.
+fn step(plan: &Plan, m: &mut Held, i: usize, path: Path) -> Now
+    ensures { (S : Classes) (A : List RuleTree) → Leads (world S A)
+        (before (table (entries_of plan.now)) m.old (Step (pick (table (entries_of plan.now)) i)) path)
+        (conf (table (entries_of plan.now)) m.new result) }
+{
+    if m.left == 0 {
+        return Now::Spent;
+    }
+    m.left -= 1;
+    Now::Going(Job::Do(i), path)
+}
+
+/// Goes on with a job.
+fn going(
+    alloc: Global,
+    schema: &Schema,
+    rules: &RuleTable,
+    plan: &Plan,
+    m: &mut Held,
+    job: Job,
+    path: Path,
+) -> Result<Now, Memory>
+    requires rules { Each (RuleOk schema.now) (map rule_tree rules.now) }
+    requires fires { Each (EntryFor (map rule_tree rules.now)) (entries_of plan.now) }
+    requires fits { FitsUnit schema.now (term_tree m.old.whole.value) }
+    requires room { m.old.log.count + m.old.left < 2 ^ 64 }
+    ensures { IfOk result (λ s. Leads (world schema.now (map rule_tree rules.now))
+        (before (table (entries_of plan.now)) m.old (job_of (table (entries_of plan.now)) job) path)
+        (conf (table (entries_of plan.now)) m.new s)) }
+{
+    match job {
+        Job::Do(i) => acting(alloc, schema, rules, plan, m, i, path),
+        Job::Step(i) => Ok(step(plan, m, i, path)),
+        Job::Kids(i) => {
+            let count = live_children_at(&m.whole, &path);
+            Ok(Now::Going(Job::Child(i, count, count), path))
+        }
+        Job::Child(i, last, left) => child(alloc, plan, m, i, last, left, path),
+        Job::Arms(i, k) => walking(alloc, plan, m, i, k, path),
+    }
+}
+
+/// Goes on behind a part.
+fn returning(plan: &Plan, m: &mut Held, ok: bool) -> Result<Now, Memory>
+    ensures { IfOk result (λ s. (S : Classes) (A : List RuleTree) → Leads (world S A)
+        (Back ok (term_tree m.old.whole.value) m.old.left (notes m.old.log)
+        (frames (table (entries_of plan.now)) m.old.stack.items))
+        (conf (table (entries_of plan.now)) m.new s)) }
+{
+    match pop(plan, &mut m.stack) {
+        None => Ok(Now::Done(ok)),
+        Some(Frame::Or(before)) => Ok(Now::Back(or(before, ok))),
+        Some(Frame::After(when, job, path)) => {
+            if !goes(when, ok) {
+                return Ok(Now::Back(ok));
+            }
+            push_or(plan, &mut m.stack, ok)?;
+            Ok(Now::Going(job, path))
+        }
+    }
+}
+
+/// One move.
+pub(crate) fn advance(
+    alloc: Global,
+    schema: &Schema,
+    rules: &RuleTable,
+    plan: &Plan,
+    m: &mut Held,
+    now: Now,
+) -> Result<Now, Memory>
+    requires rules { Each (RuleOk schema.now) (map rule_tree rules.now) }
+    requires fires { Each (EntryFor (map rule_tree rules.now)) (entries_of plan.now) }
+    requires fits { FitsUnit schema.now (term_tree m.old.whole.value) }
+    requires room { m.old.log.count + m.old.left < 2 ^ 64 }
+    ensures { IfOk result (λ s. Leads (world schema.now (map rule_tree rules.now))
+        (conf (table (entries_of plan.now)) m.old now)
+        (conf (table (entries_of plan.now)) m.new s)) }
+{
+    match now {
+        Now::Going(job, path) => going(alloc, schema, rules, plan, m, job, path),
+        Now::Back(ok) => returning(plan, m, ok),
+        Now::Done(ok) => Ok(Now::Done(ok)),
+        Now::Spent => Ok(Now::Spent),
+        Now::Size => Ok(Now::Size),
+    }
+}
+
+/// Whether the run is over.
+pub(crate) fn is_over(now: &Now) -> bool
+    ensures { result ≡ is_end now.now }
+{
+    match now {
+        Now::Going(_, _) | Now::Back(_) => false,
+        Now::Done(_) | Now::Spent | Now::Size => true,
     }
 }

@@ -35,7 +35,7 @@ fn same_kind(a: SubTerm, b: SubTerm) -> bool
 }
 
 /// Whether the part has the form of the pattern, in which a variable stands for any term of its kind.
-#[tactic(auto, using(crate::proofs::Shapes::by_children))]
+
 pub(crate) fn has_form(pattern: SubTerm, part: SubTerm) -> bool
     ensures { (result ≡ true) ↔ HasForm (sub_tree pattern.entry) (sub_tree part.entry) }
 {

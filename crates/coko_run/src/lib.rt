@@ -1,0 +1,13 @@
+//! The machine that runs plans, against what a run of a statement comes to.
+#![tactic(auto)]
+
+mod conditions;
+mod fire;
+mod fitting;
+mod machine;
+mod moves;
+mod outcome;
+mod shape;
+mod stack;
+
+pub use outcome::{End, Firing, Firings, Outcome};

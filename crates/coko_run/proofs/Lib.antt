@@ -6,3 +6,11 @@ pub mod Led
 pub mod Weight
 pub mod Frames
 pub mod Arms
+pub mod Armed
+pub mod Cases
+pub mod Shapes
+pub mod Formed
+pub mod SameShown
+pub mod Fired
+pub mod Legal
+pub mod Kept

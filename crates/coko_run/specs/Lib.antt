@@ -7,3 +7,5 @@ pub mod Moves
 pub mod Weights
 pub mod Views
 pub mod Fires
+pub mod Claims
+pub mod Answers

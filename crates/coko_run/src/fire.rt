@@ -154,6 +154,7 @@ fn shot_at(
     ensures { IfOk result (λ x. IsShooting schema.now
         (HitBy schema.now (rule_tree rule.now) rev (term_tree whole.now) path.now) x) }
 {
+    schema.well_formed();
     let Some(input) = input_at(alloc, schema, whole, path)? else {
         return Ok(Shooting::Miss);
     };

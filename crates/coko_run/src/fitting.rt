@@ -56,8 +56,10 @@ fn is_fine_const(alloc: Global, schema: &Schema, c: &Const) -> Result<bool, Memo
     ensures { IfOk result (λ b. (b ≡ true) ↔ IsFine schema.now [] (TermC (const_tree c.now)) TUnit) }
 {
     let none = Items::new(alloc);
-    let t = const_type(alloc, schema, &none, c)?;
-    Ok(t.is_some())
+    match const_type(alloc, schema, &none, c)? {
+        Some(_) => Ok(true),
+        None => Ok(false),
+    }
 }
 
 /// Whether the term is fine at `unit`.

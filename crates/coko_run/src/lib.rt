@@ -7,7 +7,9 @@ mod fitting;
 mod machine;
 mod moves;
 mod outcome;
+mod run;
 mod shape;
 mod stack;
 
 pub use outcome::{End, Firing, Firings, Outcome};
+pub use run::run_plan;

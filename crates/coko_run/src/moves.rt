@@ -36,9 +36,11 @@ fn note(log: &mut Log, rule: usize, rev: bool, path: Path) -> Result<(), Memory>
     requires { log.old.count + 1 < 2 ^ 64 }
     ensures { IfOk result (λ r. notes log.new ≡ noted (notes log.old) (Fired rule rev path ∷ [])) }
 {
-    if log.keep {
-        log.list.push(Shot { rule, rev, path })?;
+    if !log.keep {
+        log.count += 1;
+        return Ok(());
     }
+    log.list.push(Shot { rule, rev, path })?;
     log.count += 1;
     Ok(())
 }
@@ -142,6 +144,15 @@ fn arms_in(e: &Entry) -> Option<&PlanArms>
     }
 }
 
+/// The arm of a number.
+fn one_of(arms: &[(Path, usize)], k: usize) -> Option<&(Path, usize)>
+    ensures none { IfNone result (slice_get arms.now k ≡ None) }
+    ensures some { IfSome result (λ r. slice_get arms.now k ≡ Some r.now) }
+    ensures room { IfSome result (λ r. k + 1 < 2 ^ 64) }
+{
+    arms.get(k)
+}
+
 /// The arm of a number of the entry of a number.
 fn arm_at(plan: &Plan, i: usize, k: usize) -> Option<&(Path, usize)>
     ensures none { IfNone result (arms_of k (pick (table (entries_of plan.now)) i) ≡ NoWholes) }
@@ -156,7 +167,7 @@ fn arm_at(plan: &Plan, i: usize, k: usize) -> Option<&(Path, usize)>
     let Some(arms) = arms_in(e) else {
         return None;
     };
-    arms.get(k)
+    one_of(arms.as_slice(), k)
 }
 
 /// Goes on with the arms of a `GIVEN`, from one on.

@@ -48,9 +48,20 @@ pub(crate) fn has_form(pattern: SubTerm, part: SubTerm) -> bool
     match (pattern.children(), part.children()) {
         (Children::Leaf, Children::Leaf) => true,
         (Children::One(a), Children::One(b)) => has_form(a, b),
-        (Children::Two(a, c), Children::Two(b, d)) => has_form(a, b) && has_form(c, d),
+        (Children::Two(a, c), Children::Two(b, d)) => {
+            if !has_form(a, b) {
+                return false;
+            }
+            has_form(c, d)
+        }
         (Children::Three(a, c, e), Children::Three(b, d, f)) => {
-            has_form(a, b) && has_form(c, d) && has_form(e, f)
+            if !has_form(a, b) {
+                return false;
+            }
+            if !has_form(c, d) {
+                return false;
+            }
+            has_form(e, f)
         }
         _ => false,
     }

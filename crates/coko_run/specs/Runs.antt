@@ -1,4 +1,4 @@
--- D16: the outcome of a statement at a path, with the steps that are left.
+-- The outcome of a statement at a path, with the steps that are left.
 use Rattle.std.specs.Prelude.{ℕ, zero, suc, Bool, true, false, List, [], ◌∷◌, ◌++◌, ◌≡◌}
 use Rattle.kola_term.specs.Terms.{TermTree}
 use Rattle.coko_plan.specs.Wholes.{WholeTree, WFire, WSkip, WFail, WSeq, WThen, WElse, WBu, WTd, WRepeat, WGiven, WholeArms, NoWholes, MoreWholes}

@@ -1,16 +1,23 @@
 -- The entries and the arms of a plan, as the machine finds them.
-use Rattle.std.proofs.Common.{◌≡◌, ℕ, zero, suc, ◌+◌, ◌<◌, ◌≤◌, refl, sym, ap, ◌∙◌, subst, List, [], ◌∷◌, Option, Some, None, map, slice_get, length, IfSome, IfNone, arith}
+use Rattle.std.proofs.Common.{◌≡◌, ℕ, zero, suc, ◌+◌, ◌<◌, ◌≤◌, refl, sym, ap, ◌∙◌, subst, List, [], ◌∷◌, ◌++◌, Option, Some, None, map, slice_get, length, IfSome, IfNone, arith}
 use Rattle.std.specs.Borrow.{Bor}
 use Rattle.kola_values.specs.Sets.{Each}
 use Rattle.kola_term.proofs.Inversions.{some_same}
 use Rattle.kola_rule.specs.Rules.{RuleTree}
 use Rattle.coko_plan.specs.Wholes.{WholeTree, WSkip, WholeArms, NoWholes, MoreWholes}
-use Rattle.coko_plan.specs.Entries.{EntryTree, EFire, ESkip, EFail, ESeq, EThen, EElse, EBu, ETd, ERepeat, EGiven, pick, made, made_arms, table}
+use Rattle.coko_plan.specs.Entries.{EntryTree, EFire, ESkip, EFail, ESeq, EThen, EElse, EBu, ETd, ERepeat, EGiven, pick, made, made_arms, made_all, table}
 use Rattle.coko_plan.specs.Plans.{EntryFor, Fires}
 use Rattle.coko_plan.specs.Variables.{Covers}
-use Rattle.coko_plan.proofs.EntryLaws.{table_length}
 use Rattle.coko_run.specs.Views.{arms_from, arms_of}
 use Rattle.coko_run.specs.Fires.{MayFire, arm_list}
+
+longer : {A : Type 0} (xs : List A) (a : A) → length (xs ++ a ∷ []) ≡ suc (length xs)
+longer [] a = refl
+longer (x ∷ xs) a = ap suc (longer xs a)
+
+table_length : (t : List WholeTree) (es : List EntryTree) → length (made_all t es) ≡ length t + length es
+table_length t [] = omega arith
+table_length t (a ∷ es) = omega (arith, table_length (t ++ made t a ∷ []) es, longer t (made t a))
 
 past : (t : List WholeTree) (i : ℕ) → length t ≤ i → pick t i ≡ WSkip
 past [] i h = refl

@@ -66,6 +66,9 @@ module _ (G : World) where
   pub walk : (p : List ℕ) (s : WholeTree) (as' : WholeArms) (w : TermTree) (q : List ℕ) (m : ℕ) (l : Notes) (fs : List Fr) → Leads G (Going (Walk (MoreWholes p s as')) w q m l fs) (Going (Do s) w (q ++ p) m l (FAfter Always (Walk as') q ∷ fs))
   walk p s as' w q m l fs = keeps _ _ (m_walk G p s as' w q m l fs) refl refl (falls_walk p s as' w q m l fs) (λ h. h) (λ h. h)
 
+  pub walk_at : (p r : List ℕ) (s : WholeTree) (as' : WholeArms) (w : TermTree) (q : List ℕ) (m : ℕ) (l : Notes) (fs : List Fr) → r ≡ p → Leads G (Going (Walk (MoreWholes p s as')) w q m l fs) (Going (Do s) w (q ++ r) m l (FAfter Always (Walk as') q ∷ fs))
+  walk_at p r s as' w q m l fs e = subst (λ z. Leads G (Going (Walk (MoreWholes p s as')) w q m l fs) (Going (Do s) w (q ++ z) m l (FAfter Always (Walk as') q ∷ fs))) (sym e) (walk p s as' w q m l fs)
+
   pub walk_end : (w : TermTree) (q : List ℕ) (m : ℕ) (l : Notes) (fs : List Fr) → Leads G (Going (Walk NoWholes) w q m l fs) (Back false w m l fs)
   walk_end w q m l fs = keeps _ _ (m_walk_end G w q m l fs) refl refl (falls_walk_end w q m l fs) (λ h. h) (λ h. h)
 

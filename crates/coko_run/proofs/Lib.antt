@@ -14,3 +14,4 @@ pub mod SameShown
 pub mod Fired
 pub mod Legal
 pub mod Kept
+pub mod Ended

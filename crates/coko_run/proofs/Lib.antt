@@ -15,3 +15,4 @@ pub mod Fired
 pub mod Legal
 pub mod Kept
 pub mod Ended
+pub mod Reported

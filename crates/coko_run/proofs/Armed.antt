@@ -1,10 +1,10 @@
 -- The entries and the arms of a plan, as the machine finds them.
-use Rattle.std.proofs.Common.{◌≡◌, ℕ, zero, suc, ◌+◌, ◌<◌, ◌≤◌, refl, sym, ap, ◌∙◌, subst, List, [], ◌∷◌, ◌++◌, Option, Some, None, map, slice_get, length, IfSome, IfNone, arith}
+use Rattle.std.proofs.Common.{◌≡◌, ℕ, zero, suc, ◌+◌, ◌≤◌, refl, sym, ap, ◌∙◌, subst, List, [], ◌∷◌, ◌++◌, Option, Some, None, slice_get, length, IfSome, IfNone, arith}
 use Rattle.std.specs.Borrow.{Bor}
 use Rattle.kola_values.specs.Sets.{Each}
 use Rattle.kola_term.proofs.Inversions.{some_same}
 use Rattle.kola_rule.specs.Rules.{RuleTree}
-use Rattle.coko_plan.specs.Wholes.{WholeTree, WSkip, WholeArms, NoWholes, MoreWholes}
+use Rattle.coko_plan.specs.Wholes.{WholeTree, WSkip, NoWholes, MoreWholes}
 use Rattle.coko_plan.specs.Entries.{EntryTree, EFire, ESkip, EFail, ESeq, EThen, EElse, EBu, ETd, ERepeat, EGiven, pick, made, made_arms, made_all, table}
 use Rattle.coko_plan.specs.Plans.{EntryFor, Fires}
 use Rattle.coko_plan.specs.Variables.{Covers}

@@ -1,18 +1,15 @@
 -- What each move of the code does.
-use Rattle.std.proofs.Common.{◌≡◌, ◌⊎◌, inl, inr, ℕ, zero, suc, ◌+◌, ◌-◌, ◌<◌, ◌≤◌, Bool, true, false, ◌||◌, refl, sym, ap, ◌∙◌, subst, List, [], ◌∷◌, ◌++◌, IfOk, Result, Ok, Err, arith}
-use Rattle.kola_values.specs.Databases.{Classes}
+use Rattle.std.proofs.Common.{◌≡◌, inl, inr, ℕ, zero, suc, ◌+◌, ◌-◌, ◌<◌, ◌≤◌, Bool, true, false, ◌||◌, refl, sym, ap, subst, List, [], ◌∷◌, ◌++◌, IfOk, Result, Ok, Err, arith}
 use Rattle.kola_term.specs.Terms.{TermTree}
-use Rattle.kola_term.specs.TermView.{term_tree}
 use Rattle.coko_plan.specs.Wholes.{WholeTree, WFire, WSkip, WFail, WSeq, WThen, WElse, WBu, WTd, WRepeat, WGiven, WholeArms, NoWholes, MoreWholes}
-use Rattle.coko_run.specs.Outcomes.{Event, Fired, Spent, Size, When, Always, OnOk, OnFail, goes, kids, each}
+use Rattle.coko_run.specs.Outcomes.{Fired, Spent, Size, When, Always, OnOk, OnFail, goes, kids, each}
 use Rattle.coko_run.specs.Runs.{World, Job, Do, Step, Kids, Walk}
 use Rattle.coko_run.specs.Notes.{Notes, noted}
 use Rattle.coko_run.specs.Moves.{Fr, FOr, FAfter, merged, Conf, Going, Back, Over, Ended, Moves}
-use Rattle.coko_run.specs.Weights.{Apart, frames_in, whole_in, weight, left_in, count_in, IsEnd, Falls, fewer, lighter, over, Leads}
-use Rattle.coko_run.specs.Views.{notes, frames, idle_of, before, arms_of}
+use Rattle.coko_run.specs.Weights.{Apart, frames_in, whole_in, weight, left_in, count_in, IsEnd, fewer, lighter, over, Leads}
+use Rattle.coko_run.specs.Views.{idle_of, before, arms_of}
 use Rattle.coko_run.specs.Fires.{Stepped}
 use Rattle.coko_run.specs.declared.machine.Held.{Held}
-use Rattle.coko_run.proofs.Noted.{noted_none}
 use Rattle.coko_run.proofs.Weight.{falls_seq, falls_then, falls_else, falls_bu, falls_kids, falls_walk, falls_walk_end, falls_or, falls_merge, falls_stay, falls_end}
 use Rattle.coko_run.proofs.Led.{m_seq, m_then, m_else, m_bu, m_td, m_td_spent, m_repeat, m_repeat_spent, m_given, m_given_no, m_given_spent, m_walk, m_kids, m_walk_end, m_step, m_step_spent, m_skip, m_skip_spent, m_fail, m_fail_spent, m_fire, m_size, m_fire_spent, m_miss, b_or, b_go, b_stay, b_end, no_move}
 

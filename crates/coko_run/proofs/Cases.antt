@@ -1,11 +1,11 @@
 -- What holds of a result in one of its cases.
-use Rattle.std.proofs.Common.{◌≡◌, ◌+◌, ◌-◌, ℕ, zero, suc, Bool, true, false, refl, sym, ap, ◌∙◌, subst, List, [], ◌∷◌, Option, Some, None, IfSome, IfNone, IfOk, Result, Ok, Err, arith}
+use Rattle.std.proofs.Common.{◌≡◌, ◌-◌, ℕ, suc, Bool, true, false, refl, sym, ap, ◌∙◌, subst, List, [], ◌∷◌, Option, Some, None, IfSome, IfNone, IfOk, Result, Ok, Err, arith}
 use Rattle.kola_values.specs.Types.{TypeTree}
 use Rattle.kola_values.specs.Databases.{Classes}
 use Rattle.kola_term.specs.Terms.{TermTree}
 use Rattle.kola_rule.specs.Rules.{RuleTree}
 use Rattle.coko_plan.specs.Wholes.{WholeTree, MoreWholes}
-use Rattle.coko_run.specs.Outcomes.{Event, Fired, Missed, each}
+use Rattle.coko_run.specs.Outcomes.{Missed, each}
 use Rattle.coko_run.specs.Notes.{Notes, noted}
 use Rattle.coko_run.specs.Moves.{Conf}
 use Rattle.coko_run.specs.Weights.{Leads}

@@ -1,19 +1,14 @@
 -- From one move to the run, and from its last state to the answer.
-use Rattle.std.proofs.Common.{◌≡◌, ◌⊎◌, inl, inr, ℕ, ◌+◌, ◌-◌, ◌<◌, ◌≤◌, Bool, true, false, refl, sym, ap, ◌∙◌, subst, List, [], length, Some, arith}
-use Rattle.kola_term.specs.Terms.{TermTree, TermF, TermP, TermC}
-use Rattle.kola_term.specs.TermView.{fun_tree, term_tree}
-use Rattle.kola_values.specs.Databases.{Classes}
-use Rattle.kola_rule.specs.Rules.{RuleTree}
+use Rattle.std.proofs.Common.{◌≡◌, ◌⊎◌, inl, inr, ℕ, ◌+◌, ◌<◌, ◌≤◌, Bool, true, false, refl, sym, ap, ◌∙◌, subst, List, [], arith}
+use Rattle.kola_term.specs.Terms.{TermTree}
+use Rattle.kola_term.specs.TermView.{term_tree}
 use Rattle.coko_plan.specs.Wholes.{WholeTree}
 use Rattle.coko_plan.specs.Entries.{pick}
-use Rattle.coko_run.specs.Outcomes.{Event, Outcome, Done, Stop, Spent, Size, term_of}
-use Rattle.coko_run.specs.Runs.{World, Job, Do, Runs}
-use Rattle.coko_run.specs.Notes.{Notes, noted, fired}
+use Rattle.coko_run.specs.Runs.{World, Job, Do}
+use Rattle.coko_run.specs.Notes.{Notes}
 use Rattle.coko_run.specs.Moves.{Fr, Conf, Going, Moves, Reached}
 use Rattle.coko_run.specs.Weights.{left_in, count_in, whole_in, frames_in, weight, Apart, IsEnd, Falls, fewer, lighter, over, Leads, Steps}
-use Rattle.coko_run.specs.Views.{notes, frames, frames_on, kept, begun, is_end, conf_at, conf}
-use Rattle.coko_run.specs.Firing.{world}
-use Rattle.coko_run.specs.Answers.{outcome_as, StopsFailing, Answers, end_now, ok_now, IsFun, Reports}
+use Rattle.coko_run.specs.Views.{notes, frames, frames_on, begun, is_end, conf_at, conf}
 use Rattle.coko_run.specs.declared.machine.Held.{Held}
 use Rattle.coko_run.specs.declared.machine.Frame.{Frame}
 use Rattle.coko_run.specs.declared.machine.Job.TheVariants as job
@@ -169,8 +164,8 @@ none_counted l keep e = ap (λ (z : Notes). z.count) e
 pub run_begins : (G : World) (t : List WholeTree) (s : WholeTree) (w : TermTree) (n : ℕ) (keep : Bool) (b : Held) (i : ℕ) (q : List ℕ) → term_tree b.whole.value ≡ w → b.left ≡ n → notes b.log ≡ begun keep → b.stack.items ≡ [] → pick t i ≡ s → q ≡ [] → G.fit w → Ran G t (Going (Do s) w [] n (begun keep) []) n b (now.Going (job.Do i) q)
 run_begins G t s w n keep b i q e f g h j k x = record {
   moves = subst (Moves G (Going (Do s) w [] n (begun keep) []))
-        (sym (same_going (pick t i) s (term_tree b.whole.value) w q [] b.left n (notes b.log) (begun keep) (frames t b.stack.items) [] j e k f g (no_frames t b.stack.items h)))
-        (no_move G (Going (Do s) w [] n (begun keep) []));
+      (sym (same_going (pick t i) s (term_tree b.whole.value) w q [] b.left n (notes b.log) (begun keep) (frames t b.stack.items) [] j e k f g (no_frames t b.stack.items h)))
+      (no_move G (Going (Do s) w [] n (begun keep) []));
   counts = omega (arith, f, none_counted (notes b.log) keep g);
   fits = subst G.fit (sym e) x;
 }

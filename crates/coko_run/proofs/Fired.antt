@@ -1,6 +1,6 @@
 -- Firings, by the instances that are found.
-use Rattle.std.proofs.Common.{◌≡◌, ◌⊎◌, inl, inr, ℕ, zero, suc, Bool, true, false, refl, sym, ap, ◌∙◌, subst, List, [], ◌∷◌, Option, Some, None, map, slice_get, IfOk, Result, Ok, Err}
-use Rattle.kola_values.specs.Types.{TypeTree, TUnit, TBool}
+use Rattle.std.proofs.Common.{◌≡◌, ◌⊎◌, inl, inr, ℕ, zero, suc, Bool, true, false, refl, sym, ap, ◌∙◌, subst, List, [], ◌∷◌, Some, None, map, slice_get, IfOk, Result, Ok, Err}
+use Rattle.kola_values.specs.Types.{TypeTree, TUnit}
 use Rattle.kola_values.specs.Databases.{Classes}
 use Rattle.kola_values.specs.Sets.{Each}
 use Rattle.kola_schema.specs.Schemas.{is_schema}
@@ -13,7 +13,7 @@ use Rattle.kola_term.proofs.Paths.{typed_at}
 use Rattle.kola_rule.specs.Rules.{RuleTree}
 use Rattle.kola_rule.specs.RuleViews.{rule_tree}
 use Rattle.kola_rule.specs.declared.rule.Rule.{Rule}
-use Rattle.kola_match.specs.Substitutions.{Substitution, sub_type, inst, IsTyped}
+use Rattle.kola_match.specs.Substitutions.{Substitution, sub_type, inst}
 use Rattle.kola_match.specs.Occurring.{variable, Occurs}
 use Rattle.kola_match.specs.Binds.{Binds, substitution_of}
 use Rattle.kola_match.specs.Instances.{pattern_side, other_side, Decided}
@@ -21,7 +21,7 @@ use Rattle.kola_match.specs.RuleOk.{RuleOk, SidesFit}
 use Rattle.kola_match.proofs.Closed.{schema_closed}
 use Rattle.kola_match.proofs.Commute.{sub_inst}
 use Rattle.kola_match.proofs.AgreeingLaws.{same_inst}
-use Rattle.kola_proof.specs.Steps.{IsPlace, ByInstance, AllShown}
+use Rattle.kola_proof.specs.Steps.{IsPlace, AllShown}
 use Rattle.coko_run.proofs.SameShown.{same_shown}
 use Rattle.coko_plan.specs.Variables.{Covers}
 use Rattle.coko_run.specs.Forms.{HasForm}

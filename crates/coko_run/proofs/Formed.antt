@@ -1,6 +1,5 @@
 -- An instance of a pattern has its form.
-use Rattle.std.proofs.Common.{◌≡◌, true, refl, sym, subst, List, [], ◌∷◌}
-use Rattle.std.specs.Str.{bytes_eq}
+use Rattle.std.proofs.Common.{◌≡◌, refl, subst, [], ◌∷◌}
 use Rattle.kola_term.specs.Terms.{ConstTree, CInt, CBool, CStr, CSet, CExtent, CMeta, FunTree, FId, FFst, FSnd, FFlat, FUnion, FIsect, FMinus, FAttr, FComp, FPair, FTimes, FK, FC, FIf, FIterate, FIter, FJoin, FNest, FUnnest, FMeta, PredTree, PEq, PLt, PLe, PMember, PAt, PAnd, POr, PNot, PInv, PKP, PCP, PEx, PFa, PMeta, TermTree, TermF, TermP, TermC}
 use Rattle.kola_match.specs.Substitutions.{Substitution, inst, inst_fun, inst_pred, inst_const}
 use Rattle.kola_match.proofs.NodeLaws.{node_itself}

@@ -1,5 +1,5 @@
 -- The stack's frames, and the log.
-use Rattle.std.proofs.Common.{◌≡◌, ℕ, ◌+◌, Bool, true, false, ◌||◌, refl, sym, ap, ◌∙◌, List, [], ◌∷◌, ◌++◌, Option, Some, None, option_map, IfSome, IfNone, IfOk, Result, Ok, Err, MatchOption, option_to_list, length, map, arith}
+use Rattle.std.proofs.Common.{◌≡◌, ℕ, ◌+◌, Bool, true, false, ◌||◌, refl, sym, ap, ◌∙◌, List, [], ◌∷◌, ◌++◌, Option, Some, None, option_map, IfSome, IfNone, IfOk, Result, Ok, Err, MatchOption, option_to_list, length, map}
 use Rattle.std.proofs.lemmas.List.{map-append, append-nil}
 use Rattle.coko_plan.specs.Wholes.{WholeTree}
 use Rattle.coko_run.specs.Outcomes.{Event, Fired, When}

@@ -1,5 +1,5 @@
 -- What every firing keeps, every run keeps; and that firings by rules that hold keep the value and the type at `unit`.
-use Rattle.std.proofs.Common.{◌≡◌, ℕ, zero, suc, Bool, true, false, cond, refl, sym, ap, ap₂, ◌∙◌, subst, List, [], ◌∷◌, ◌++◌, Option, Some, None}
+use Rattle.std.proofs.Common.{◌≡◌, ℕ, Bool, true, false, cond, refl, sym, ap, ap₂, ◌∙◌, subst, List, [], ◌∷◌, Option, Some, None}
 use Rattle.kola_values.specs.Types.{TypeTree, FieldTypes, TEnd, TField, TVar, TSet, TPair, TStruct, TUnit, TBool}
 use Rattle.kola_values.specs.Databases.{Classes, Objects, look_up}
 use Rattle.kola_values.specs.Sets.{Each}
@@ -7,25 +7,22 @@ use Rattle.kola_schema.specs.Schemas.{is_schema}
 use Rattle.kola_schema.specs.Meets.{Meets}
 use Rattle.kola_term.specs.Terms.{ConstTree, CMeta, FunTree, FComp, FPair, FTimes, FK, FC, FIf, FIterate, FIter, FJoin, FNest, FUnnest, FMeta, PredTree, PAt, PAnd, POr, PNot, PInv, PCP, PEx, PFa, PMeta, TermTree, TermF, TermP, TermC}
 use Rattle.kola_term.specs.Typing.{Context, MetaTree, MFun, MPred, MConst, is_typed}
-use Rattle.kola_term.specs.Places.{Typed, sub_at, put_in, place}
 use Rattle.kola_term.specs.Agreement.{Agree, kind_out, SameKind, Serves}
 use Rattle.kola_term.proofs.Inversions.{some_same}
 use Rattle.kola_term.proofs.Kept.{kept_at}
 use Rattle.kola_term.proofs.Paths.{at_place}
 use Rattle.kola_rule.specs.Rules.{RuleTree}
-use Rattle.kola_match.specs.Substitutions.{Substitution, sub_type, sub_types, inst, inst_fun, inst_pred, inst_const, IsTyped}
+use Rattle.kola_match.specs.Substitutions.{Substitution, sub_type, sub_types, inst, inst_fun, inst_pred, inst_const}
 use Rattle.kola_match.specs.Holding.{Injective, InjectiveAt, AllInjective, Holds}
 use Rattle.kola_match.specs.RuleOk.{RuleOk, SidesFit}
 use Rattle.kola_match.specs.Instances.{pattern_side, other_side}
-use Rattle.kola_match.proofs.Closed.{AttributesClosed, schema_closed}
+use Rattle.kola_match.proofs.Closed.{schema_closed}
 use Rattle.kola_match.proofs.KindOut.{kind_inst}
-use Rattle.kola_injective.specs.Derived.{Derived}
 use Rattle.kola_injective.proofs.Sound.{injective_under}
-use Rattle.kola_proof.specs.Steps.{ShownAt, AllShown}
-use Rattle.coko_plan.specs.Wholes.{WholeTree}
+use Rattle.kola_proof.specs.Steps.{ShownAt}
 use Rattle.coko_run.specs.Outcomes.{Event, Outcome, Done, Stop, joined, When, term_of}
-use Rattle.coko_run.specs.Runs.{World, Job, Do, Runs, step_spent, step, fire_spent, fire_hit, fire_size, fire_miss, skip_spent, skip, fail_spent, fail, seq, then_, else_, bu, td, turns, given_spent, given_no, given, at_kids, walk_end, walk, Next, halt, go, stay}
-use Rattle.coko_run.specs.Firing.{Hit, HitBy, world, FitsUnit}
+use Rattle.coko_run.specs.Runs.{World, Job, Runs, step_spent, step, fire_spent, fire_hit, fire_size, fire_miss, skip_spent, skip, fail_spent, fail, seq, then_, else_, bu, td, turns, given_spent, given_no, given, at_kids, walk_end, walk, Next, halt, go, stay}
+use Rattle.coko_run.specs.Firing.{HitBy, world, FitsUnit}
 use Rattle.coko_run.specs.Claims.{Good, RunsKeep}
 use Rattle.coko_run.proofs.Armed.{each_at}
 use Rattle.coko_run.proofs.Fired.{rule_kinds, whole_typed}

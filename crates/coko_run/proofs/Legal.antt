@@ -1,5 +1,5 @@
 -- Statements whose firings put in no new variable have one outcome at most.
-use Rattle.std.proofs.Common.{ℕ, Bool, List}
+use Rattle.std.proofs.Common.{ℕ, Bool}
 use Rattle.coko_plan.specs.Wholes.{WholeTree, WFire, WSkip, WFail, WSeq, WThen, WElse, WBu, WTd, WRepeat, WGiven, WholeArms, NoWholes, MoreWholes}
 use Rattle.coko_run.specs.Runs.{AllFire, AllFires, OneResult}
 use Rattle.coko_run.specs.Firing.{world}

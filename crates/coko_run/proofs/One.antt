@@ -1,9 +1,9 @@
 -- At most one outcome.
-use Rattle.std.proofs.Common.{◌≡◌, ℕ, zero, suc, Bool, true, false, refl, sym, ap, ◌∙◌, subst, List, [], ◌∷◌, ◌++◌}
+use Rattle.std.proofs.Common.{◌≡◌, ℕ, Bool, true, false, refl, sym, ap, ◌∙◌, subst, List, [], ◌∷◌}
 use Rattle.kola_term.specs.Terms.{TermTree}
-use Rattle.coko_plan.specs.Wholes.{WholeTree, WholeArms}
-use Rattle.coko_run.specs.Outcomes.{Why, Event, Fired, Outcome, Done, Stop, joined, When, goes, term_of, left_of, ok_of, log_of, kids, each}
-use Rattle.coko_run.specs.Runs.{World, Job, Do, Step, Kids, Walk, Runs, step_spent, step, fire_spent, fire_hit, fire_size, fire_miss, skip_spent, skip, fail_spent, fail, seq, then_, else_, bu, td, turns, given_spent, given_no, given, at_kids, walk_end, walk, Next, halt, go, stay, OneResult, OneOutcome, AllFire, AllFires, JobFires}
+use Rattle.coko_plan.specs.Wholes.{WholeTree}
+use Rattle.coko_run.specs.Outcomes.{Fired, Outcome, Done, joined, When, goes, term_of, left_of, ok_of, log_of, kids, each}
+use Rattle.coko_run.specs.Runs.{World, Job, Runs, step_spent, step, fire_spent, fire_hit, fire_size, fire_miss, skip_spent, skip, fail_spent, fail, seq, then_, else_, bu, td, turns, given_spent, given_no, given, at_kids, walk_end, walk, Next, halt, go, stay, OneResult, OneOutcome, AllFire, AllFires, JobFires}
 
 each_fires : (L : ℕ → Bool → Type 0) (s : WholeTree) (ns : List ℕ) → AllFire L s → AllFires L (each s ns)
 each_fires L s [] h = tt

@@ -1,6 +1,5 @@
 -- From the machine's last state to the answer, and what is kept up to there.
 use Rattle.std.proofs.Common.{◌≡◌, ℕ, ◌+◌, ◌-◌, ◌≤◌, Bool, true, false, refl, sym, ap, ◌∙◌, subst, List, [], length, arith}
-use Rattle.kola_values.specs.Types.{TypeTree, TUnit}
 use Rattle.kola_values.specs.Databases.{Classes}
 use Rattle.kola_values.specs.Sets.{Each}
 use Rattle.kola_schema.specs.Schemas.{is_schema}
@@ -11,7 +10,7 @@ use Rattle.kola_rule.specs.Rules.{RuleTree}
 use Rattle.kola_match.specs.Holding.{Holds}
 use Rattle.kola_match.specs.RuleOk.{RuleOk}
 use Rattle.coko_plan.specs.Wholes.{WholeTree}
-use Rattle.coko_run.specs.Outcomes.{Event, Outcome, term_of}
+use Rattle.coko_run.specs.Outcomes.{Event, term_of}
 use Rattle.coko_run.specs.Runs.{World, Job, Do, Runs}
 use Rattle.coko_run.specs.Notes.{Notes, noted, fired}
 use Rattle.coko_run.specs.Moves.{Fr, Reached}
@@ -72,9 +71,9 @@ module _ (S : Classes) (rules : List RuleTree) (t : List WholeTree) (a : WholeTr
         o.0,
         record {
           runs = subst (λ z. Runs (world S rules) (Do a) w [] n (outcome_as r.end (TermF (fun_tree r.term)) r.ok o.0 z)) back
-                (subst (λ z. Runs (world S rules) (Do a) w [] n (outcome_as r.end (TermF (fun_tree r.term)) z o.0 h.left)) (sym p.ok)
-                (subst (λ z. Runs (world S rules) (Do a) w [] n (outcome_as r.end z (ok_now s) o.0 h.left)) (sym p.term)
-                (subst (λ z. Runs (world S rules) (Do a) w [] n (outcome_as z (term_tree h.whole.value) (ok_now s) o.0 h.left)) (sym p.end) o.1)));
+              (subst (λ z. Runs (world S rules) (Do a) w [] n (outcome_as r.end (TermF (fun_tree r.term)) z o.0 h.left)) (sym p.ok)
+              (subst (λ z. Runs (world S rules) (Do a) w [] n (outcome_as r.end z (ok_now s) o.0 h.left)) (sym p.term)
+              (subst (λ z. Runs (world S rules) (Do a) w [] n (outcome_as z (term_tree h.whole.value) (ok_now s) o.0 h.left)) (sym p.end) o.1)));
           stops = subst (λ z. StopsFailing z r.ok) (sym p.end) (subst (StopsFailing (end_now s)) (sym p.ok) (stops_failing s));
           firings = p.firings ∙ count_noted (notes h.log) o.0 o.2;
           steps = omega (arith, p.steps);

@@ -1,5 +1,5 @@
 -- Two instances of a rule at one place, whose variables stand on the pattern side, have the same conditions to show.
-use Rattle.std.proofs.Common.{◌≡◌, ℕ, Bool, true, false, cond, Option, Some, None, refl, sym, ap, ◌∙◌, subst, List, [], ◌∷◌, ◌⊎◌, inl, inr}
+use Rattle.std.proofs.Common.{◌≡◌, ℕ, Bool, true, false, cond, Option, Some, None, refl, sym, ap, ◌∙◌, subst, List, [], ◌∷◌}
 use Rattle.std.specs.Str.{bytes_eq}
 use Rattle.kola_values.specs.Types.{TypeTree}
 use Rattle.kola_values.specs.Databases.{Classes, look_up}

@@ -1,5 +1,5 @@
 -- The form of a pattern, by the children of both nodes.
-use Rattle.std.proofs.Common.{◌≡◌, ◌↔◌, ℕ, Bool, true, false, refl, sym, ap, ◌∙◌, subst, List, [], ◌∷◌, Option, Some, None}
+use Rattle.std.proofs.Common.{◌≡◌, ◌↔◌, Bool, true, false, refl, sym, ◌∙◌, subst, List, [], ◌∷◌}
 use Rattle.kola_term.specs.Terms.{TermTree}
 use Rattle.kola_term.specs.Places.{children}
 use Rattle.kola_match.specs.Alike.{same_kind}
@@ -32,7 +32,6 @@ first_in (more_forms x y) = x
 
 rest_in : {a b : TermTree} {ps ts : List TermTree} → HaveForms (a ∷ ps) (b ∷ ts) → HaveForms ps ts
 rest_in (more_forms x y) = y
-
 
 -- of one, two and three children
 pub leaf_form : (X : Type 0) → (HaveForms [] [] ↔ X) → ((true ≡ true) ↔ X)

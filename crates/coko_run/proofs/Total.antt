@@ -1,9 +1,9 @@
 -- No statement is without an outcome: by the steps that are left, then the statement, then the subterm.
-use Rattle.std.proofs.Common.{◌≡◌, ℕ, zero, suc, ◌+◌, ◌<◌, ◌≤◌, Bool, true, false, refl, ap, List, [], ◌∷◌, ◌++◌, Option, Some, None, arith}
+use Rattle.std.proofs.Common.{◌≡◌, ℕ, zero, suc, ◌<◌, ◌≤◌, Bool, true, false, refl, ap, List, [], ◌∷◌, ◌++◌, Option, Some, None, arith}
 use Rattle.kola_term.specs.Terms.{TermTree}
 use Rattle.kola_term.specs.Places.{children, sub_at}
 use Rattle.coko_plan.specs.Wholes.{WholeTree, WFire, WSkip, WFail, WSeq, WThen, WElse, WBu, WTd, WRepeat, WGiven, WholeArms, NoWholes, MoreWholes}
-use Rattle.coko_run.specs.Outcomes.{Why, Spent, Size, Event, Fired, Outcome, Done, Stop, joined, When, Always, OnOk, OnFail, goes, live, live_of, kids, each}
+use Rattle.coko_run.specs.Outcomes.{Spent, Size, Event, Fired, Outcome, Done, Stop, joined, When, Always, OnOk, OnFail, goes, live, live_of, kids, each}
 use Rattle.coko_run.specs.Runs.{World, Job, Do, Step, Kids, Walk, Runs, step_spent, step, fire_spent, fire_hit, fire_size, fire_miss, skip_spent, skip, fail_spent, fail, seq, then_, else_, bu, td, turns, given_spent, given_no, given, at_kids, walk_end, walk, Next, halt, go, stay, SomeOutcome}
 use Rattle.coko_run.specs.Weights.{nodes_of}
 use Rattle.coko_run.proofs.Smaller.{one_more, below}
@@ -117,9 +117,11 @@ module _ (G : World) where
 
   fires : (r : ℕ) (v : Bool) (w : TermTree) (q : List ℕ) (m : ℕ) → Ran (Do (WFire r v)) w q (suc m)
   fires r v w q m z =
-      z (Done w false (G.missed r v w q) m,
-      fire_miss (λ w' h. z (Stop w Size [] m, fire_size h (λ f. z (Done w' true (Fired r v q ∷ []) m, fire_hit h f, omega arith)), tt)),
-      omega arith)
+      z (
+        Done w false (G.missed r v w q) m,
+        fire_miss (λ w' h. z (Stop w Size [] m, fire_size h (λ f. z (Done w' true (Fired r v q ∷ []) m, fire_hit h f, omega arith)), tt)),
+        omega arith,
+      )
 
   mutual
     total : (s : WholeTree) (w : TermTree) (q : List ℕ) (m : ℕ) → Ran (Do s) w q m

@@ -1,5 +1,5 @@
 -- What the answer to a run says.
-use Rattle.std.specs.Prelude.{◌≡◌, ◌≤◌, ◌-◌, ℕ, Bool, true, false, List, [], length}
+use Rattle.std.specs.Prelude.{◌≡◌, ◌≤◌, ◌-◌, ℕ, Bool, false, List, [], length}
 use Rattle.kola_values.specs.Databases.{Classes}
 use Rattle.kola_term.specs.Terms.{TermTree, TermF}
 use Rattle.kola_term.specs.TermView.{fun_tree, term_tree}

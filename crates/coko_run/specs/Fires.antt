@@ -1,5 +1,5 @@
 -- What the parts of the machine say of entries and of firings.
-use Rattle.std.specs.Prelude.{◌≡◌, ◌-◌, ◌⊎◌, ℕ, Bool, List, [], ◌∷◌, Some, slice_get, Result, Ok, Err}
+use Rattle.std.specs.Prelude.{◌≡◌, ◌-◌, ◌⊎◌, ℕ, Bool, List, [], ◌∷◌, Some, slice_get}
 use Rattle.kola_values.specs.Databases.{Classes}
 use Rattle.kola_term.specs.Terms.{TermTree}
 use Rattle.kola_term.specs.TermView.{term_tree}

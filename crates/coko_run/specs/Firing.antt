@@ -1,5 +1,5 @@
 -- What a rule does at a place of the whole term: a step of a proof, at the type `unit` and without variables.
-use Rattle.std.specs.Prelude.{◌≡◌, ℕ, Bool, List, [], ◌∷◌, Option, Some, None, slice_get}
+use Rattle.std.specs.Prelude.{◌≡◌, ℕ, Bool, List, [], ◌∷◌, Option, Some, slice_get}
 use Rattle.kola_values.specs.Types.{TypeTree, TUnit}
 use Rattle.kola_values.specs.Databases.{Classes}
 use Rattle.kola_term.specs.Terms.{TermTree}

@@ -1,5 +1,5 @@
 -- What a run of a statement does and comes to.
-use Rattle.std.specs.Prelude.{ℕ, zero, suc, Bool, true, false, not, ◌||◌, List, [], ◌∷◌, ◌++◌, Option, Some, None}
+use Rattle.std.specs.Prelude.{ℕ, suc, Bool, true, false, not, ◌||◌, List, [], ◌∷◌, ◌++◌, Option, Some, None}
 use Rattle.kola_values.specs.Types.{TypeTree}
 use Rattle.kola_term.specs.Terms.{TermTree, TermF, TermP, TermC}
 use Rattle.kola_term.specs.Places.{children, sub_at}

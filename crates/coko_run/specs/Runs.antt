@@ -2,7 +2,7 @@
 use Rattle.std.specs.Prelude.{ℕ, zero, suc, Bool, true, false, List, [], ◌∷◌, ◌++◌, ◌≡◌}
 use Rattle.kola_term.specs.Terms.{TermTree}
 use Rattle.coko_plan.specs.Wholes.{WholeTree, WFire, WSkip, WFail, WSeq, WThen, WElse, WBu, WTd, WRepeat, WGiven, WholeArms, NoWholes, MoreWholes}
-use Rattle.coko_run.specs.Outcomes.{Why, Spent, Size, Event, Fired, Missed, Outcome, Done, Stop, joined, kids, each, When, Always, OnOk, OnFail, goes}
+use Rattle.coko_run.specs.Outcomes.{Why, Spent, Size, Event, Fired, Outcome, Done, Stop, joined, kids, each, When, Always, OnOk, OnFail, goes}
 
 -- what the schema and the table of rules give: the firings of a rule in a direction at a path, the note of a failed attempt,
 -- whether a term fits at unit, and whether the subterm at a path has the form of a pattern

@@ -1,12 +1,12 @@
 -- What stands in the machine.
-use Rattle.std.specs.Prelude.{◌≡◌, ◌≤◌, ◌-◌, ℕ, zero, suc, length, Bool, true, false, List, [], ◌∷◌, map, Option, Some, None}
-use Rattle.kola_term.specs.Terms.{TermTree, TermF}
-use Rattle.kola_term.specs.TermView.{fun_tree, term_tree}
+use Rattle.std.specs.Prelude.{◌-◌, ℕ, zero, suc, Bool, true, false, List, [], ◌∷◌, map, Option, Some, None}
+use Rattle.kola_term.specs.Terms.{TermTree}
+use Rattle.kola_term.specs.TermView.{term_tree}
 use Rattle.coko_plan.specs.Wholes.{WholeTree, WSkip, WFail, WGiven, WholeArms, NoWholes, MoreWholes}
 use Rattle.coko_plan.specs.Entries.{pick}
 use Rattle.coko_run.specs.Outcomes as s
 use Rattle.coko_run.specs.Runs as d
-use Rattle.coko_run.specs.Notes.{Notes, fired}
+use Rattle.coko_run.specs.Notes.{Notes}
 use Rattle.coko_run.specs.Moves.{Fr, FOr, FAfter, Conf, Going, Back, Over, Ended}
 use Rattle.coko_run.specs.declared.machine.Job.{Job}
 use Rattle.coko_run.specs.declared.machine.Job.TheVariants as job

@@ -58,19 +58,21 @@ fn other_of<'a>(rule: &'a Rule, rev: bool) -> &'a Term
 }
 
 /// The input type at the path; `None` where no function or predicate stands there.
-fn input_at(
-    alloc: Global,
-    schema: &Schema,
-    whole: &Term,
-    path: &Path,
-) -> Result<Option<Ty>, Memory>
+fn input_at(alloc: Global, schema: &Schema, whole: &Term, path: &Path) -> Result<Option<Ty>, Memory>
     requires { FitsUnit schema.now (term_tree whole.now) }
     ensures some { IfOk result (λ o. IfSome o (λ t. place schema.now [] (term_tree whole.now) TUnit path.now
         ≡ Some (type_tree t))) }
     ensures none { IfOk result (λ o. IfNone o (IsPlace (sub_at (term_tree whole.now) path.now) → ⊥)) }
 {
     let none = Items::new(alloc);
-    match input_at_part(alloc, schema, &none, whole.as_part(), &Ty::Unit, path.as_slice()) {
+    match input_at_part(
+        alloc,
+        schema,
+        &none,
+        whole.as_part(),
+        &Ty::Unit,
+        path.as_slice(),
+    ) {
         Ok(input) => Ok(Some(input)),
         Err(PlaceFault::NoSuchPath) | Err(PlaceFault::WrongKind) => Ok(None),
         Err(PlaceFault::Memory) => Err(AllocError),

@@ -198,13 +198,7 @@ fn walking(
 }
 
 /// Goes on with a `GIVEN`.
-fn given(
-    plan: &Plan,
-    m: &mut Held,
-    i: usize,
-    pattern: &Term,
-    path: Path,
-) -> Now
+fn given(plan: &Plan, m: &mut Held, i: usize, pattern: &Term, path: Path) -> Now
     ensures { (S : Classes) (A : List RuleTree) (arms : WholeArms) →
         pick (table (entries_of plan.now)) i ≡ WGiven (term_tree pattern.now) arms → Leads (world S A)
         (before (table (entries_of plan.now)) m.old (Do (pick (table (entries_of plan.now)) i)) path)
@@ -255,7 +249,15 @@ fn acting(
             first_of(alloc, plan, m, When::OnFail, Job::Do(*b), Job::Do(*a), path)
         }
         Entry::Bu(a) => {
-            first_of(alloc, plan, m, When::Always, Job::Step(*a), Job::Kids(i), path)
+            first_of(
+                alloc,
+                plan,
+                m,
+                When::Always,
+                Job::Step(*a),
+                Job::Kids(i),
+                path,
+            )
         }
         Entry::Td(a) => stepping(alloc, plan, m, When::Always, Job::Kids(i), *a, path),
         Entry::Repeat(a) => stepping(alloc, plan, m, When::OnOk, Job::Do(i), *a, path),

@@ -151,7 +151,10 @@ fn outcome_of(m: Held, now: &Now, budget: u64) -> Outcome
     ensures { Reports m now.now budget result }
 {
     let Held {
-        whole, left, log, ..
+        whole,
+        left,
+        log,
+        ..
     } = m;
     Outcome {
         term: fun_of(whole),

@@ -30,7 +30,9 @@ fn same_kind(a: SubTerm, b: SubTerm) -> bool
 {
     matches!(
         (a, b),
-        (SubTerm::F(_), SubTerm::F(_)) | (SubTerm::P(_), SubTerm::P(_)) | (SubTerm::C(_), SubTerm::C(_))
+        (SubTerm::F(_), SubTerm::F(_))
+            | (SubTerm::P(_), SubTerm::P(_))
+            | (SubTerm::C(_), SubTerm::C(_))
     )
 }
 
@@ -76,7 +78,6 @@ pub(crate) fn has_form_at(pattern: &Term, whole: &Term, path: &Path) -> bool
         None => false,
     }
 }
-
 
 /// The number of children that are no constants; they come first.
 fn live_children(part: SubTerm) -> u8

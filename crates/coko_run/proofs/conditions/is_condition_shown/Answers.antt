@@ -1,6 +1,5 @@
 use Rattle.std.proofs.Common.{[], ◌≡◌, ◌↔◌, true, Some, None, refl, subst}
 use Rattle.std.specs.Prelude.{IfOk}
-use Rattle.kola_term.specs.ContextView.{context_of}
 use Rattle.kola_match.specs.Binds.{substitution_of}
 use Rattle.kola_match.specs.SubstViews.{found_binds}
 use Rattle.kola_match.proofs.RuleLaws.{declared_as}

@@ -1,7 +1,6 @@
 use Rattle.std.proofs.Common.{[], refl, sym, ap, ◌∙◌, subst, option_map}
 use Rattle.kola_values.specs.Views.{type_tree}
 use Rattle.kola_term.specs.Terms.{FId}
-use Rattle.kola_term.specs.ContextView.{context_of}
 use Rattle.kola_match.specs.Binds.{or_else, substitution_of}
 use Rattle.kola_match.specs.Substitutions.{sub_type}
 use Rattle.kola_match.specs.NodeViews.{fun_at}

@@ -1,4 +1,4 @@
-use Rattle.std.proofs.Common.{◌≡◌, true, false, Some, map, sym, ap, subst, ◌∙◌}
+use Rattle.std.proofs.Common.{map, sym, ap, subst, ◌∙◌}
 use Rattle.kola_term.specs.TermView.{term_tree}
 use Rattle.kola_term.specs.Parts.{sub_tree}
 use Rattle.kola_term.specs.Places.{sub_at}

@@ -1,9 +1,8 @@
-use Rattle.std.proofs.Common.{◌≡◌, true, false, [], ◌∷◌, Some, None, sym, ap, subst, ◌∙◌, option_map}
-use Rattle.kola_values.specs.Types.{TUnit}
+use Rattle.std.proofs.Common.{[], ◌∷◌, Some, None, sym, subst, option_map}
 use Rattle.kola_values.specs.Views.{type_tree}
 use Rattle.kola_term.specs.ContextView.{context_of}
 use Rattle.kola_term.specs.Parts.{sub_tree}
-use Rattle.kola_term.specs.Places.{Typed, place}
+use Rattle.kola_term.specs.Places.{Typed}
 use Rattle.kola_term.specs.TermView.{term_tree}
 use Rattle.kola_rule.specs.RuleViews.{rule_tree}
 use Rattle.kola_match.specs.Binds.{substitution_of}
@@ -39,8 +38,8 @@ returns-then-not-branch c =
     let r = rule_tree c.args.rule.now in
     let T = type_tree c.in-Some.input in
     let i = found_instance S r c.args.rev (term_tree c.args.whole.now) c.args.path.now T (sub_tree c.args.part) (found_binds c.in-Some-2.s) (if_some _ _ _ c.in-Some.is c.in_ok-input.ensures.some) c.requires.part
-          (subst (λ z. Decided S (context_of z) r.vars r.input T ((pattern_side r c.args.rev, sub_tree c.args.part) ∷ []) (Some (found_binds c.in-Some-2.s))) c.new-none.ensures
-          (subst (λ o. Decided S (context_of c.new-none.result) r.vars r.input T ((pattern_side r c.args.rev, sub_tree c.args.part) ∷ []) (option_map found_binds o)) c.in-Some-2.is c.in_ok-s.ensures.found)) in
+    (subst (λ z. Decided S (context_of z) r.vars r.input T ((pattern_side r c.args.rev, sub_tree c.args.part) ∷ []) (Some (found_binds c.in-Some-2.s))) c.new-none.ensures
+    (subst (λ o. Decided S (context_of c.new-none.result) r.vars r.input T ((pattern_side r c.args.rev, sub_tree c.args.part) ∷ []) (option_map found_binds o)) c.in-Some-2.is c.in_ok-s.ensures.found)) in
     not_shown S r c.args.rev (term_tree c.args.whole.now) c.args.path.now (substitution_of (found_binds c.in-Some-2.s)) c.well_formed-2.ensures c.requires.rule c.requires.covers i (λ h. clash _ (c.in_ok-are_shown.ensures.1 h) c.if-not-branch.true)
 
 pub shot_by-requires-clause-by : goal.shot_by-requires-clause-by

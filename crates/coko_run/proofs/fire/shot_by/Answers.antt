@@ -1,4 +1,4 @@
-use Rattle.std.proofs.Common.{true, false, subst, ap, sym, ◌∙◌}
+use Rattle.std.proofs.Common.{subst, ap, sym, ◌∙◌}
 use Rattle.kola_term.specs.TermView.{term_tree}
 use Rattle.kola_rule.specs.RuleViews.{rule_tree}
 use Rattle.kola_match.specs.Binds.{substitution_of}

@@ -1,12 +1,11 @@
-use Rattle.std.proofs.Common.{◌≡◌, [], ◌∷◌, Some, map, sym, ap, subst, ◌∙◌}
+use Rattle.std.proofs.Common.{map, ap, ◌∙◌}
 use Rattle.kola_term.specs.TermView.{term_tree}
 use Rattle.kola_rule.specs.RuleViews.{rule_tree}
-use Rattle.coko_plan.specs.Entries.{pick, made, made_arms, table}
-use Rattle.coko_plan.specs.EntryViews.{entry_tree, entries_of}
+use Rattle.coko_plan.specs.Entries.{table}
+use Rattle.coko_plan.specs.EntryViews.{entries_of}
 use Rattle.coko_run.specs.Firing.{world}
-use Rattle.kola_term.specs.Terms.{TermTree}
 use Rattle.coko_run.specs.Outcomes.{kids}
-use Rattle.coko_run.specs.Views.{job_of, before, counted}
+use Rattle.coko_run.specs.Views.{job_of, before}
 use Rattle.coko_run.proofs.Arms.{from_conf, kids_are}
 use Rattle.coko_run.proofs.moves.going.Goals as goal
 

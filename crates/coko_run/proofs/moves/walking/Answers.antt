@@ -1,8 +1,5 @@
-use Rattle.std.proofs.Common.{◌≡◌, [], ◌∷◌, Some, map, sym, ap, subst, ◌∙◌}
-use Rattle.kola_term.specs.TermView.{term_tree}
-use Rattle.kola_rule.specs.RuleViews.{rule_tree}
-use Rattle.coko_plan.specs.Entries.{pick, made, made_arms, table}
-use Rattle.coko_plan.specs.EntryViews.{entry_tree, entries_of}
+use Rattle.coko_plan.specs.Entries.{table}
+use Rattle.coko_plan.specs.EntryViews.{entries_of}
 use Rattle.coko_run.specs.Firing.{world}
 use Rattle.coko_run.specs.Views.{conf}
 use Rattle.coko_run.proofs.Cases.{lead_all}

@@ -1,4 +1,4 @@
-use Rattle.std.proofs.Common.{◌∙◌, [], sym, ap, map, arith}
+use Rattle.std.proofs.Common.{◌∙◌, [], sym, ap, map}
 use Rattle.kola_term.specs.Terms.{TermF}
 use Rattle.kola_term.specs.TermView.{fun_tree}
 use Rattle.kola_rule.specs.RuleViews.{rule_tree}

@@ -1,7 +1,7 @@
 use Rattle.std.proofs.Common.{[], ◌∷◌}
 use Rattle.kola_term.specs.Parts.{sub_tree}
 use Rattle.coko_run.specs.Forms.{HasForm}
-use Rattle.coko_run.proofs.Shapes.{variable_form, node_form, leaf_form, one_form, two_form, three_form, not_first, not_second}
+use Rattle.coko_run.proofs.Shapes.{variable_form, node_form, leaf_form, one_form, two_form, three_form, not_second}
 use Rattle.coko_run.proofs.shape.+has_form.Goals as goal
 
 pub returns-then-is_variable : goal.returns-then-is_variable

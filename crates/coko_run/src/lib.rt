@@ -4,6 +4,7 @@
 mod conditions;
 mod fire;
 mod fitting;
+mod laws;
 mod machine;
 mod moves;
 mod outcome;
@@ -11,5 +12,6 @@ mod run;
 mod shape;
 mod stack;
 
+pub use laws::{a_run_has_one_outcome, a_run_keeps_the_meaning};
 pub use outcome::{End, Firing, Firings, Outcome};
 pub use run::run_plan;

@@ -22,7 +22,7 @@ use crate::site::{Site, Stop, number_at};
 use coko_block::{Block, RuleFile, Stmt};
 use kola_core::{Memory, Name, NameTable};
 use kola_rule::RuleTable;
-use std::alloc::Global;
+use std::alloc::{AllocError, Global};
 
 /// The names of blocks, in their order.
 fn names_of(alloc: Global, blocks: &[Block]) -> Result<NameTable, Memory>
@@ -71,7 +71,7 @@ fn fault_at(block: &Name, stop: Stop) -> CompileFault
 {
     match named_fault(block, stop) {
         Ok(fault) => fault,
-        Err(_) => CompileFault::Memory,
+        Err(AllocError) => CompileFault::Memory,
     }
 }
 

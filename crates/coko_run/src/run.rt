@@ -177,7 +177,8 @@ pub fn run_plan(
 ) -> Result<Outcome, Memory>
     requires plan { PlanFor (entries_of plan.now) (start_of plan.now) (map rule_tree accepted.now.rules) }
     requires fits { (u : TypeTree) × Fits accepted.now.schema [] (TermF (fun_tree term)) TUnit u }
-    ensures outcome { IfOk result (λ o. (f : List Event) × Answers accepted.now.schema (map rule_tree accepted.now.rules)
+    ensures outcome { IfOk result
+        (λ o. (f : List Event) × Answers accepted.now.schema (map rule_tree accepted.now.rules)
         (stands_for (entries_of plan.now) (start_of plan.now)) (TermF (fun_tree term)) budget o f) }
     ensures fits { IfOk result (λ o. (u : TypeTree) × Fits accepted.now.schema [] (TermF (fun_tree o.term)) TUnit u) }
     ensures keeps { IfOk result (λ o. Good accepted.now.schema (TermF (fun_tree term)) (TermF (fun_tree o.term))) }

@@ -1,0 +1,11 @@
+pub mod Outcomes
+pub mod Runs
+pub mod Forms
+pub mod Firing
+pub mod Notes
+pub mod Moves
+pub mod Weights
+pub mod Views
+pub mod Fires
+pub mod Claims
+pub mod Answers
